@@ -1,0 +1,13 @@
+pub mod Taken
+pub mod Bridge
+pub mod JournalBlock
+pub mod First
+pub mod Count
+pub mod Register
+pub mod ReachedRegister
+pub mod Snapshot
+pub mod Whole
+pub mod Flushes
+pub mod Opening
+pub mod Bytes
+pub mod Recovery

@@ -1,0 +1,10 @@
+pub mod Core
+pub mod First
+pub mod JournalBlock
+pub mod Register
+pub mod Whole
+pub mod Snapshot
+pub mod Flushes
+pub mod Opening
+pub mod Bytes
+pub mod Recovery

@@ -1,0 +1,2 @@
+// Calls, answers and bookings as values and as bytes.
+pub mod booking;
