@@ -13,31 +13,20 @@ use Rattle.bank.specs.Book.{Bank, pick}
 use Rattle.bank.specs.Calls.{Call, opens, rated, move, take-back, day-ends, balance, statement, sums, taken-so-far, garbled, Answer, Limits, after, answer, turned, turned-by, good-call, changed, fits, new-bank, orders-fit, rates-in}
 use Rattle.bank.specs.Promise.{readable, asks, plain, room, allowed, Is-the-first-core}
 use Rattle.model.specs.Core.{book, Is-the-first-by, Is-the-first-core-by, the-first-core, Through-every-life}
-use Rattle.model.specs.First.{first-call, changes, size, not-yet, journal-format, first-program, first-reading}
+use Rattle.model.specs.First.{first-call, size, not-yet, journal-format, first-program, first-reading}
+use Rattle.bank.specs.Count.{changes}
 use Rattle.device.specs.Book.{Keeps}
 use Rattle.device.specs.Journal.{Grows, Reads-back}
 use Rattle.device.specs.Lives.{Life, every-life}
 use Rattle.device.proofs.Lives.{through-lives, bounds-from, lives-weaker}
 use Rattle.model.specs.JournalBlock.{stored}
-use Rattle.model.proofs.Taken.{never, taken-fits, fits-parts}
+use Rattle.bank.proofs.Limited.{never, taken-fits, fits-parts}
+use Rattle.bank.proofs.Taken.{after-taken}
+use Rattle.bank.proofs.Count.{unasked}
 use Rattle.model.proofs.JournalBlock.{none-calls, none-own, journal-block-own, journal-block-back, journal-block-full, journal-block-bytes, storable}
 use Rattle.device.proofs.Journal.{journal-keeps}
 use Rattle.device.proofs.Resident.{resident-keeps}
 use Rattle.model.proofs.Bridge.{first-by}
-
--- a question changes nothing
-asked : (n : Bank) (c : Call) → asks c ≡ true → changed n c ≡ n
-unfolding asks changed
-asked n (opens m r) h = never h
-asked n (rated a r) h = never h
-asked n (move v a b x) h = never h
-asked n (take-back k) h = never h
-asked n day-ends h = never h
-asked n (balance a d k) h = refl
-asked n (statement a d e) h = refl
-asked n sums h = refl
-asked n taken-so-far h = refl
-asked n (garbled k) h = refl
 
 -- a call of the first stage that is no question opens an account or moves money
 one-more : (n : Bank) (c : Call) → plain c ≡ true → not (asks c) ≡ true → size (changed n c) ≡ suc (size n)
@@ -54,19 +43,6 @@ one-more n taken-so-far h g = never g
 one-more n (garbled k) h g = never g
 
 module _ (l : Limits) where
-  pub after-taken : (n : Bank) (c : Call) → turned l n c ≡ 0 → after l n c ≡ changed n c
-  after-taken n c h = rw h
-
-  -- what is no change leaves the book as it is
-  pub unasked : (n : Bank) (c : Call) → changes l n c ≡ false → after l n c ≡ n
-  unasked n c h = go (asks c) (eqb (turned l n c) 0) refl refl h
-    where
-      go : (x y : Bool) → asks c ≡ x → eqb (turned l n c) 0 ≡ y → (not x && y) ≡ false → after l n c ≡ n
-      go true true a b e = rw b (asked n c a)
-      go true false a b e = rw b
-      go false true a b e = never (sym e)
-      go false false a b e = rw b
-
   held : (n : Bank) → fits l n ≡ true → size n ≤ l .accounts + l .bookings
   held n h = let q = fits-parts l n h in omega arith
 
@@ -75,7 +51,7 @@ module _ (l : Limits) where
   more n c g h =
       let a : not (asks c) ≡ true = and-parts _ _ h .0 in
       let t : turned l n c ≡ 0 = eqb-true (turned l n c) 0 (and-parts _ _ h .1) in
-      rw (after-taken n c t) (one-more n c (and-parts _ _ g .1) a, held (changed n c) (taken-fits l n c t))
+      rw (after-taken l n c t) (one-more n c (and-parts _ _ g .1) a, held (changed n c) (taken-fits l n c t))
 
   no-question : (x : Bool) → not x ≡ true → x ≡ false
   no-question true h = never h
@@ -84,7 +60,7 @@ module _ (l : Limits) where
   pub first-grows : allowed l ≡ true → Grows (book l) first-call stored asks 24 (room l) (changes l) size
   first-grows a =
       record {
-        idle = λ n c g h. unasked n c h;
+        idle = λ n c g h. unasked l n c h;
         grows = λ n c g h. let m : (size (after l n c) ≡ suc (size n)) × (size (after l n c) ≤ l .accounts + l .bookings) = more n c g h in omega arith;
         bound = λ n c g h. let m : (size (after l n c) ≡ suc (size n)) × (size (after l n c) ≤ l .accounts + l .bookings) = more n c g h in omega arith;
         storable = λ n c g h. storable l a n c h;

@@ -12,7 +12,8 @@ use Rattle.bank.specs.Book.{pick, Bank}
 use Rattle.bank.specs.Calls.{Call, Answer, Limits, turned, after}
 use Rattle.bank.specs.Device.{Program}
 use Rattle.bank.specs.Promise.{readable, asks}
-use Rattle.model.specs.First.{first-call, changes, first-program}
+use Rattle.model.specs.First.{first-call, first-program}
+use Rattle.bank.specs.Count.{changes}
 use Rattle.model.specs.Register.{Register}
 use Rattle.model.specs.Whole.{whole-program}
 use Rattle.model.specs.Flushes.{state-after, steps-so-far, Flushes-exact, First-flushes-exact}
@@ -21,8 +22,8 @@ use Rattle.device.specs.Plan.{Write, acts-of}
 use Rattle.device.specs.Resident.{Memory, Memory-since}
 use Rattle.device.proofs.Cuts.{flushes-++}
 use Rattle.device.proofs.Plan.{flushes-batches}
-use Rattle.model.proofs.First.{after-taken}
-use Rattle.model.proofs.Count.{counted-one}
+use Rattle.bank.proofs.Taken.{after-taken}
+use Rattle.bank.proofs.Count.{counted-one}
 
 -- what each call adds, all calls add
 module _ (p : Program) (so-far : p .State → ℕ) (one : (s : p .State) (c : Call) → flushes (p .does s c) + so-far s ≡ so-far (p .next s c)) where

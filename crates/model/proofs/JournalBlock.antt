@@ -12,13 +12,13 @@ use Rattle.bank.specs.Book.{Bank, pick}
 use Rattle.bank.specs.Calls.{Call, opens, rated, move, take-back, day-ends, balance, statement, sums, taken-so-far, garbled, Limits, turned, turned-by, good-call, changed}
 use Rattle.bank.specs.Promise.{asks, allowed}
 use Rattle.bank.proofs.Taken.{can-go-back, can-move}
-use Rattle.model.specs.First.{changes}
+use Rattle.bank.specs.Count.{changes}
 use Rattle.model.specs.JournalBlock.{Head, head-row, call-kind, call-numbers, call-widths, call-from, call-row, stored, head-for, head-in, limits-in, same-book, headed, own, journal-block, epoch-in, calls-in}
 use Rattle.device.specs.Device.{all-bytes}
 use Rattle.device.specs.Book.{every}
 use Rattle.device.specs.Rows.{top, bytes-of, row, number-of, numbers, fits-in, fits-row, row-of, thing-in, rows, block-of, rows-in, with-bytes}
 use Rattle.device.proofs.Rows.{zeros, block-begun, block-more, row-of-length, row-of-bytes, row-of-back, block-full, block-bytes, block-back}
-use Rattle.model.proofs.Taken.{never, pick-zero, taken-fits, taken-good, taken-by, Fits, fits-parts, Allowed, allowed-parts}
+use Rattle.bank.proofs.Limited.{never, pick-zero, taken-fits, taken-good, taken-by, Fits, fits-parts, Allowed, allowed-parts}
 
 call-fits : (c : Call) → stored c ≡ true → fits-row call-row c ≡ true
 call-fits c h = and-parts (not (asks c)) (fits-row call-row c) h .1

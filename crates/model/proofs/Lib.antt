@@ -1,8 +1,6 @@
-pub mod Taken
 pub mod Bridge
 pub mod JournalBlock
 pub mod First
-pub mod Count
 pub mod Register
 pub mod ReachedRegister
 pub mod Snapshot

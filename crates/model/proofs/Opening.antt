@@ -20,7 +20,8 @@ use Rattle.bank.proofs.Reached.{reached-sound}
 use Rattle.bank.proofs.Bounded.{within}
 use Rattle.bank.proofs.Order.{in-order}
 use Rattle.model.specs.Core.{book}
-use Rattle.model.specs.First.{first-call, changes, size, not-yet, journal-format, first-program, first-reading}
+use Rattle.model.specs.First.{first-call, size, not-yet, journal-format, first-program, first-reading}
+use Rattle.bank.specs.Count.{changes}
 use Rattle.model.specs.Register.{Dated, Register, register-book, new-register}
 use Rattle.model.specs.JournalBlock.{call-row, stored, head-in, limits-in, headed, own, epoch-in, calls-in}
 use Rattle.model.specs.Snapshot.{Counts, counts-row, counts-of, limits-of, area-blocks, snapshot, snapshot-uses, layout}
@@ -37,7 +38,7 @@ use Rattle.device.proofs.Journal.{ran-logged}
 use Rattle.model.proofs.Bridge.{ran-is, register-ran}
 use Rattle.model.proofs.First.{first-grows, first-keeps}
 use Rattle.model.proofs.JournalBlock.{headed-limits, headed-format}
-use Rattle.model.proofs.Count.{most-calls}
+use Rattle.bank.specs.Count.{most-calls}
 use Rattle.model.proofs.Register.{Dated-well}
 use Rattle.model.proofs.ReachedRegister.{reached-facts, reached-bank, reached-sized}
 use Rattle.model.proofs.Snapshot.{counts-back}

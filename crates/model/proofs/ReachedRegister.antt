@@ -16,16 +16,17 @@ use Rattle.bank.proofs.Tally.{Each}
 use Rattle.bank.proofs.Sound.{Fine}
 use Rattle.bank.proofs.Reached.{reached-sound}
 use Rattle.bank.proofs.Bounded.{within}
-use Rattle.model.specs.First.{changes}
+use Rattle.bank.specs.Count.{changes}
 use Rattle.model.specs.Register.{Dated, Register, sets, register-after, new-register, register-book}
 use Rattle.model.specs.Snapshot.{Counts, counts-row, limit-row, rate-row, booking-row, limits-of, rates-of, accounts-of, counts-of}
-use Rattle.model.specs.Whole.{Reached-register}
+use Rattle.model.specs.Whole.{Reached-register, Sized}
 use Rattle.device.specs.Book.{every, ran-by}
 use Rattle.device.specs.Rows.{fits-in, fits-row}
-use Rattle.model.proofs.Taken.{never, taken-good, taken-by, Fits, fits-parts, Allowed, allowed-parts}
+use Rattle.bank.proofs.Limited.{never, taken-good, taken-by, Fits, fits-parts, Allowed, allowed-parts}
 use Rattle.model.proofs.Bridge.{ran-is, register-ran}
-use Rattle.model.proofs.First.{after-taken, unasked}
-use Rattle.model.proofs.Count.{Counted, counted-new, counted-stays, counted-few}
+use Rattle.bank.proofs.Taken.{after-taken}
+use Rattle.bank.proofs.Count.{unasked}
+use Rattle.bank.proofs.Count.{Counted, counted-new, counted-stays, counted-few}
 use Rattle.model.proofs.Register.{Dated-well, Well, well-stays}
 
 -- a question sets no rate
@@ -63,7 +64,7 @@ module _ (l : Limits) where
   facts-new : allowed l ≡ true → Facts new-register
   facts-new a =
       record {
-        counts = counted-new l a;
+        counts = counted-new l (allowed-parts l a .two);
         well = unfold limits-of accounts-of rates-of rates-in in record { dates = tt; small = (omega arith, (omega arith, tt)); rebuilt = refl; long = refl };
       }
 
@@ -94,13 +95,6 @@ module _ (l : Limits) where
 
   pub reached-bank : (k : Register) → Reached-register l k → Reached (k .bank)
   reached-bank k h = (l, h .0, sym (ran-is l new-bank (h .0)) ∙ sym (register-ran l new-register (h .0)) ∙ ap (λ (x : Register). x .bank) (h .1))
-
--- all numbers of a book fit their rows
-pub record Sized (k : Register) : Type 0 where
-  pub counts : fits-row counts-row (counts-of k) ≡ true
-  pub limits : every (fits-row limit-row) (limits-of (k .bank .accounts)) ≡ true
-  pub rates : every (fits-row rate-row) (k .rates) ≡ true
-  pub bookings : every (fits-row booking-row) (k .bank .bookings) ≡ true
 
 counts-fit : (x : Counts) → x .today ≤ 3650 → x .done < 4294967296 → x .accounts ≤ 4096 → x .rates < 65536 → x .bookings < 4294967296 → fits-row counts-row x ≡ true
 unfolding fits-in

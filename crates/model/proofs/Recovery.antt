@@ -9,7 +9,8 @@ use Rattle.bank.specs.Calls.{Call, Limits, new-bank}
 use Rattle.bank.specs.Device.{Device}
 use Rattle.bank.specs.Promise.{readable, asks, room, allowed}
 use Rattle.model.specs.Core.{book}
-use Rattle.model.specs.First.{first-call, changes, size, not-yet, journal-format, first-program, first-reading}
+use Rattle.model.specs.First.{first-call, size, not-yet, journal-format, first-program, first-reading}
+use Rattle.bank.specs.Count.{changes}
 use Rattle.model.specs.Register.{Register, register-book}
 use Rattle.model.specs.JournalBlock.{stored, journal-block, epoch-in, calls-in}
 use Rattle.model.specs.Snapshot.{layout, area-blocks}
@@ -22,7 +23,7 @@ use Rattle.device.proofs.Resident.{replayed-is, how-many-is}
 use Rattle.device.proofs.Checkpoint.{found}
 use Rattle.device.proofs.Journal.{found as found-journal}
 use Rattle.model.proofs.First.{first-grows, journal-reads-back}
-use Rattle.model.proofs.Count.{most-calls}
+use Rattle.bank.specs.Count.{most-calls}
 use Rattle.model.proofs.Whole.{layout-laws, changes-facts}
 use Rattle.model.proofs.Opening.{On}
 

@@ -14,8 +14,8 @@ use Rattle.bank.specs.Calls.{Call, opens, rated, move, take-back, day-ends, bal
 use Rattle.bank.proofs.Tally.{pick-both, Each, each-append, each-like}
 use Rattle.model.specs.Register.{Dated, sets}
 use Rattle.model.specs.Snapshot.{limits-of, rates-of, accounts-of}
-use Rattle.model.proofs.Taken.{pick-zero}
-use Rattle.model.proofs.Count.{rates-++, rates-set}
+use Rattle.bank.proofs.Limited.{pick-zero}
+use Rattle.bank.proofs.Count.{rates-++, rates-set}
 
 -- limits of accounts with one more, or one changed
 pub limits-snoc : (xs : List Account) (y : Account) → limits-of (xs ++ (y ∷ [])) ≡ limits-of xs ++ (y .limit ∷ [])

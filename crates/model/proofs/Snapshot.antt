@@ -15,9 +15,10 @@ use Rattle.device.specs.Device.{all-bytes}
 use Rattle.device.specs.Book.{every}
 use Rattle.device.specs.Rows.{Row, fits-row, thing-in, rows-at, block-of, rows-in, table, in-table, table-in}
 use Rattle.device.proofs.Rows.{block-full, block-bytes, block-back, table-full, table-bytes, table-back}
-use Rattle.model.proofs.Taken.{Fits, fits-parts}
+use Rattle.bank.proofs.Limited.{Fits, fits-parts}
 use Rattle.model.proofs.Register.{limits-length}
-use Rattle.model.proofs.ReachedRegister.{Facts, Sized}
+use Rattle.model.specs.Whole.{Sized}
+use Rattle.model.proofs.ReachedRegister.{Facts}
 
 -- things that stand one behind the other
 in-part : {X : Type 0} (n : ℕ) (f g : ℕ → X) (i : ℕ) → i < n → behind n f g i ≡ f i

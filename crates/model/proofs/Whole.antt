@@ -11,7 +11,8 @@ use borrow.Author.Tests.{eqb-true}
 use Rattle.bank.specs.Calls.{Call, Limits, turned}
 use Rattle.bank.specs.Promise.{readable, asks, room, allowed, Is-the-core}
 use Rattle.model.specs.Core.{book, Is-the-core-by, the-core, Through-every-life}
-use Rattle.model.specs.First.{changes, not-yet}
+use Rattle.model.specs.First.{not-yet}
+use Rattle.bank.specs.Count.{changes}
 use Rattle.model.specs.Register.{Register, register-after, new-register, register-book}
 use Rattle.model.specs.JournalBlock.{stored}
 use Rattle.model.specs.Snapshot.{layout, area-blocks}
@@ -22,11 +23,12 @@ use Rattle.device.proofs.Keeps.{ran-snoc}
 use Rattle.device.proofs.Checkpoint.{checkpointed-keeps}
 use Rattle.device.proofs.Resident.{resident-since-keeps}
 use Rattle.device.proofs.Lives.{through-lives, bounds-from}
-use Rattle.model.proofs.Taken.{Allowed, allowed-parts}
+use Rattle.bank.proofs.Limited.{Allowed, allowed-parts}
 use Rattle.model.proofs.Bridge.{bank-by, register-keeps}
-use Rattle.model.proofs.First.{after-taken}
+use Rattle.bank.proofs.Taken.{after-taken}
 use Rattle.model.proofs.JournalBlock.{none-epoch, none-calls, none-own, journal-block-own, journal-block-epoch, journal-block-back, journal-block-full, journal-block-bytes, storable}
-use Rattle.model.proofs.Count.{most-calls, counted-one, counted-few}
+use Rattle.bank.specs.Count.{most-calls}
+use Rattle.bank.proofs.Count.{counted-one, counted-few}
 use Rattle.model.proofs.ReachedRegister.{register-idle, reached-facts, reached-sized}
 use Rattle.model.proofs.Snapshot.{snapshot-full, snapshot-bytes, snapshot-back}
 

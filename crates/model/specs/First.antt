@@ -1,13 +1,13 @@
 -- The first stage's program: in memory the bank and the calls of the journal's last block; on the device the journal, 24 calls to a block, in all blocks. Assumes nothing: these are definitions.
-use mathlib.Core.Bool.{Bool, true, false, not, _&&_}
+use mathlib.Core.Bool.{Bool, _&&_}
 use mathlib.Core.List.{List}
 use Prim.Native.Nat.{ℕ, _+_}
-use lib.Dec.{eqb}
 use lib.ListN.{length}
 use Rattle.bank.specs.Book.{Bank}
-use Rattle.bank.specs.Calls.{Call, Answer, refused, Limits, turned}
+use Rattle.bank.specs.Calls.{Call, Answer, refused, Limits}
 use Rattle.bank.specs.Device.{Device, Program}
-use Rattle.bank.specs.Promise.{readable, asks, plain, room}
+use Rattle.bank.specs.Promise.{readable, plain, room}
+use Rattle.bank.specs.Count.{changes}
 use Rattle.model.specs.Core.{book}
 use Rattle.device.specs.Plan.{program-of}
 use Rattle.model.specs.JournalBlock.{own, journal-block, calls-in}
@@ -17,10 +17,6 @@ use Rattle.device.specs.Resident.{resident}
 -- calls of the first stage
 abbrev pub first-call : Call → Bool
 first-call c = readable c && plain c
-
--- a call that is taken and is no question changes the book
-abbrev pub changes : Limits → Bank → Call → Bool
-changes l n c = not (asks c) && eqb (turned l n c) 0
 
 -- each of them uses up an account or a booking
 abbrev pub size : Bank → ℕ

@@ -8,7 +8,8 @@ use Rattle.bank.specs.Book.{pick, Bank}
 use Rattle.bank.specs.Calls.{Call, Limits, answer}
 use Rattle.bank.specs.Device.{Program, acts, flushes}
 use Rattle.bank.specs.Promise.{readable}
-use Rattle.model.specs.First.{first-call, changes, not-yet, first-program}
+use Rattle.model.specs.First.{first-call, not-yet, first-program}
+use Rattle.bank.specs.Count.{changes}
 use Rattle.model.specs.Register.{Register}
 use Rattle.model.specs.Whole.{whole-program}
 use Rattle.device.specs.Device.{pick as pick-of, say}

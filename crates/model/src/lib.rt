@@ -5,7 +5,7 @@ ghost use Rattle.bank.specs.Calls.{Limits};
 ghost use Rattle.bank.specs.Promise.{allowed, readable};
 ghost use Rattle.model.specs.Core.{Is-the-core-by, Is-the-first-core-by, Through-every-life};
 ghost use Rattle.model.specs.First.{first-call, first-program, first-reading};
-ghost use Rattle.model.specs.Whole.{whole-program, whole-reading};
+ghost use Rattle.model.specs.Whole.{whole-program, whole-reading, Snapshot-fits};
 ghost use Rattle.model.specs.Flushes.{Flushes-exact, First-flushes-exact};
 ghost use Rattle.model.specs.Bytes.{Journal-bytes, Snapshot-bytes};
 ghost use Rattle.model.specs.Recovery.{Recovers, First-recovers};
@@ -41,6 +41,13 @@ pub fn core_stands() -> u8
 pub fn bytes_stand() -> u8
     ensures journal { λ _. ⌜ Journal-bytes ⌝ }
     ensures snapshot { λ _. ⌜ Snapshot-bytes ⌝ }
+{
+    0
+}
+
+// Every number of a book that calls bring about fits its field in a snapshot.
+pub fn snapshot_fits_stands() -> u8
+    ensures { λ _. ⌜ Snapshot-fits ⌝ }
 {
     0
 }
