@@ -6,6 +6,7 @@ pub mod ReachedRegister
 pub mod Snapshot
 pub mod Whole
 pub mod Flushes
+pub mod Steps
 pub mod Opening
 pub mod Bytes
 pub mod Recovery
