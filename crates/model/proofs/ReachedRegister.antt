@@ -12,6 +12,7 @@ use Rattle.bank.specs.Book.{pick, Account, Booking, Bank}
 use Rattle.bank.specs.Calls.{Call, opens, rated, move, take-back, day-ends, balance, statement, sums, taken-so-far, garbled, Limits, rates-in, turned, changed, after, ran, new-bank}
 use Rattle.bank.specs.Promise.{asks, allowed, Reached}
 use Rattle.bank.specs.Bounds.{amounts-below}
+use Rattle.bank.specs.Room.{Reached-under}
 use Rattle.bank.proofs.Tally.{Each}
 use Rattle.bank.proofs.Sound.{Fine}
 use Rattle.bank.proofs.Reached.{reached-sound}
@@ -68,7 +69,7 @@ module _ (l : Limits) where
         well = unfold limits-of accounts-of rates-of rates-in in record { dates = tt; small = (omega arith, (omega arith, tt)); rebuilt = refl; long = refl };
       }
 
-  register-taken : (k : Register) (c : Call) → turned l (k .bank) c ≡ 0 → register-after l k c ≡ record { bank = changed (k .bank) c; rates = k .rates ++ sets (k .bank) c }
+  pub register-taken : (k : Register) (c : Call) → turned l (k .bank) c ≡ 0 → register-after l k c ≡ record { bank = changed (k .bank) c; rates = k .rates ++ sets (k .bank) c }
   register-taken k c h = rw h
 
   facts-after : (k : Register) (c : Call) → Facts k → Facts (register-after l k c)
@@ -93,8 +94,11 @@ module _ (l : Limits) where
   pub reached-facts : allowed l ≡ true → (k : Register) → Reached-register l k → Facts k
   reached-facts a k h = subst Facts (h .1) (facts-ran new-register (h .0) (facts-new a))
 
+  pub reached-under : (k : Register) → Reached-register l k → Reached-under l (k .bank)
+  reached-under k h = (h .0, sym (ran-is l new-bank (h .0)) ∙ sym (register-ran l new-register (h .0)) ∙ ap (λ (x : Register). x .bank) (h .1))
+
   pub reached-bank : (k : Register) → Reached-register l k → Reached (k .bank)
-  reached-bank k h = (l, h .0, sym (ran-is l new-bank (h .0)) ∙ sym (register-ran l new-register (h .0)) ∙ ap (λ (x : Register). x .bank) (h .1))
+  reached-bank k h = let r = reached-under k h in (l, r .0, r .1)
 
 counts-fit : (x : Counts) → x .today ≤ 3650 → x .done < 4294967296 → x .accounts ≤ 4096 → x .rates < 65536 → x .bookings < 4294967296 → fits-row counts-row x ≡ true
 unfolding fits-in
