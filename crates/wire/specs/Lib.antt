@@ -1,1 +1,3 @@
 pub mod Booked
+pub mod Bytes
+pub mod Meaning

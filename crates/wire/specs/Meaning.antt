@@ -1,0 +1,17 @@
+-- What the code's calls stand for: each case, the call of the book with its numbers. Assumes nothing: these are definitions.
+use Rattle.bank.specs.Calls.{opens, rated, move, take-back, day-ends, balance, statement, sums, taken-so-far}
+use Rattle.bank.specs.Calls.{Call as Meant}
+use Rattle.wire.specs.declared.call.Call.{Call}
+use Rattle.wire.specs.declared.call.Call.the-variants.{Open, Rate, Move, TakeBack, DayEnds, Balance, Statement, Sums, Taken}
+
+-- the call of the book that a call of the code is
+abbrev pub meant : Call → Meant
+meant (Open limit rate) = opens limit rate
+meant (Rate account rate) = rated account rate
+meant (Move value from to amount) = move value from to amount
+meant (TakeBack booking) = take-back booking
+meant DayEnds = day-ends
+meant (Balance account value known) = balance account value known
+meant (Statement account first last) = statement account first last
+meant Sums = sums
+meant Taken = taken-so-far

@@ -1,0 +1,1 @@
+// A taken call as a row of the journal.
