@@ -152,3 +152,14 @@ read-more ks bytes at end i n h few e is =
     ∙ set-at front 0 (replicate (8 - (i + 1)) 0) n i long
     ∙ sym (append-assoc front (n ∷ []) (replicate (8 - (i + 1)) 0))
     ∙ ap (λ r. r ++ replicate (8 - (i + 1)) 0) (ap (λ m. front ++ (m ∷ [])) (sym same) ∙ sym (numbers-suc ks (drop at bytes) i h) ∙ ap (λ k. numbers (take k ks) (drop at bytes)) (sym (add-one i)))
+
+pub length-put : (xs ys : List ℕ) (at : ℕ) → at + length ys ≤ length xs → length (with-bytes xs at ys) ≡ length xs
+length-put xs ys at h = simp (length-append, length-take, length-drop) (omega arith)
+
+-- zeros behind a list are what stands past its end
+pub getD-zeros : (xs : List ℕ) (m i : ℕ) → getD (xs ++ replicate m 0) i 0 ≡ getD xs i 0
+getD-zeros [] zero i = refl
+getD-zeros [] (suc m) zero = refl
+getD-zeros [] (suc m) (suc i) = getD-zeros [] m i
+getD-zeros (x ∷ xs) m zero = refl
+getD-zeros (x ∷ xs) m (suc i) = getD-zeros xs m i
