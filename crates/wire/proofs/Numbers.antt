@@ -7,13 +7,13 @@ use native.Mathlib.Nat.{div-div-eq-div-mul, add-assoc, add-zero, zero-add, suc-a
 use native.Mathlib.Numerals.{add-one}
 use native.Mathlib.Omega.{arith}
 use lib.ListN.{length, getD, set, take, drop, replicate, length-take, length-drop, length-append}
-use Rattle.std.proofs.shelf.Lists.{take-at, drop-at, drop-drop, take-append-drop, take-append-le, drop-append-le, drop-replicate, append-nil, length-take-le, set-at, set-split}
+use Rattle.std.proofs.shelf.Lists.{take-at, drop-at, drop-drop, take-append-drop, take-append-le, drop-append-le, drop-replicate, take-replicate, append-nil, length-take-le, set-at, set-split}
 use borrow.Rule.Slice.PartMut.{putMid, post-is}
 use Rattle.device.specs.Rows.{bytes-of, number-of, numbers, row, width, with-bytes}
 use Rattle.device.proofs.Rows.{length-bytes, row-length, zeros}
 use Rattle.std.proofs.shelf.Tests.{and-parts, leb-true}
 use lib.Dec.{leb}
-use Rattle.wire.specs.Bytes.{narrow}
+use Rattle.wire.specs.Bytes.{eights, form, narrow}
 
 -- what to_le_bytes writes
 pub bytes-8 : (n : ℕ) → bytes-of 8 n ≡ n % 256 ∷ n / 256 % 256 ∷ n / 65536 % 256 ∷ n / 16777216 % 256 ∷ n / 4294967296 % 256 ∷ n / 1099511627776 % 256 ∷ n / 281474976710656 % 256 ∷ n / 72057594037927936 % 256 ∷ []
@@ -163,3 +163,25 @@ getD-zeros [] (suc m) zero = refl
 getD-zeros [] (suc m) (suc i) = getD-zeros [] m i
 getD-zeros (x ∷ xs) m zero = refl
 getD-zeros (x ∷ xs) m (suc i) = getD-zeros xs m i
+
+-- widths of eight
+pub eights-front : (n : ℕ) → n ≤ 8 → take (n - 0) (replicate 8 8) ≡ eights n
+eights-front n h = let same : n - 0 ≡ n = omega arith in rw same (take-replicate {X = ℕ} n 8 8 h)
+
+pub width-eights : (n : ℕ) → width (eights n) ≡ 8 * n
+width-eights zero = refl
+width-eights (suc n) = omega (arith, width-eights n)
+
+pub narrow-eights : (n : ℕ) → narrow (eights n) ≡ true
+narrow-eights zero = refl
+narrow-eights (suc n) = narrow-eights n
+
+pub length-form : (t : ℕ) (ns : List ℕ) → length (form t ns) ≡ 1 + 8 * length ns
+length-form t ns = omega (arith, row-length (eights (length ns)) ns, width-eights (length ns))
+
+-- a byte, and numbers behind it
+pub form-put : (out after ws : List ℕ) (t : ℕ) (ns : List ℕ) → 0 < length out → after ≡ with-bytes (set out 0 t) 1 (row ws ns) → ws ≡ eights (length ns) → after ≡ with-bytes out 0 (form t ns)
+form-put out after ws t ns h e w =
+    e ∙ ap (λ x. with-bytes (set out 0 t) 1 (row x ns)) w
+    ∙ ap (λ x. with-bytes x 1 (row (eights (length ns)) ns)) (put-one out 0 t h)
+    ∙ put-put out (t ∷ []) (row (eights (length ns)) ns) 0 1 refl (omega arith)

@@ -13,22 +13,22 @@ use Rattle.model.specs.JournalBlock.{call-from, call-kind, call-numbers, call-r
 use Rattle.model.proofs.Taken.{never}
 use Rattle.wire.specs.declared.call.Call.{Call}
 use Rattle.wire.specs.declared.call.Call.the-variants.{Open, Rate, Move, TakeBack, DayEnds, Balance, Statement, Sums, Taken}
-use Rattle.wire.specs.Meaning.{call-fields, call-number, meant}
-use Rattle.wire.specs.Format.{call-of}
+use Rattle.wire.specs.Meaning.{meant}
+use Rattle.wire.specs.Format.{call-fields, call-number, call-of}
 use Rattle.std.proofs.shelf.Lists.{drop-drop}
 use Rattle.wire.proofs.Numbers.{getD-zeros, length-put, put-part, put-put}
 use Rattle.wire.proofs.Calls.{same-call}
 
 -- a call's numbers as the code has them
 abbrev padded : Call → List ℕ
-padded c = call-fields c ++ replicate (4 - length (call-fields c)) 0
+padded c = call-fields (meant c) ++ replicate (4 - length (call-fields (meant c))) 0
 
 -- the row by a kind, widths and numbers
 abbrev laid : ℕ → List ℕ → List ℕ → List ℕ
 laid kind ks ns = bytes-of 2 kind ++ (row ks ns ++ replicate (18 - width ks) 0)
 
 -- a call that has a row is one of the first five
-pub early : (c : Call) → stored (meant c) ≡ true → call-number c < 5
+pub early : (c : Call) → stored (meant c) ≡ true → call-number (meant c) < 5
 unfolding asks
 early (Open m r) h = omega arith
 early (Rate a r) h = omega arith
@@ -40,7 +40,7 @@ early (Statement a d e) h = never h
 early Sums h = never h
 early Taken h = never h
 
-row-laid : (c : Call) → stored (meant c) ≡ true → row-of call-row (meant c) ≡ laid (call-number c + 1) (call-widths (call-number c + 1)) (padded c)
+row-laid : (c : Call) → stored (meant c) ≡ true → row-of call-row (meant c) ≡ laid (call-number (meant c) + 1) (call-widths (call-number (meant c) + 1)) (padded c)
 unfolding asks row-of row call-kind call-numbers call-widths
 row-laid (Open m r) h = refl
 row-laid (Rate a r) h = refl
@@ -52,7 +52,7 @@ row-laid (Statement a d e) h = never h
 row-laid Sums h = never h
 row-laid Taken h = never h
 
-pub row-is : (c : Call) (number : ℕ) (ks ns : List ℕ) → stored (meant c) ≡ true → number ≡ call-number c → ks ≡ call-widths (number + 1) → ns ≡ padded c → laid (number + 1) ks ns ≡ row-of call-row (meant c)
+pub row-is : (c : Call) (number : ℕ) (ks ns : List ℕ) → stored (meant c) ≡ true → number ≡ call-number (meant c) → ks ≡ call-widths (number + 1) → ns ≡ padded c → laid (number + 1) ks ns ≡ row-of call-row (meant c)
 row-is c number ks ns h n k f = let r = row-laid c h in cc
 
 -- the kind, the numbers and zeros, one behind another

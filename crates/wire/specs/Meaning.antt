@@ -1,7 +1,8 @@
--- What the code's calls stand for: for each case its number, its values and the call of the book. Assumes nothing: these are definitions.
-use mathlib.Core.List.{List, [], _∷_}
+-- What the code's calls stand for: for each case the call of the book, with its values. Assumes nothing: these are definitions.
 use Prim.Native.Nat.{ℕ}
-use Rattle.bank.specs.Calls.{opens, rated, move, take-back, day-ends, balance, statement, sums, taken-so-far}
+use Rattle.std.specs.declared.result.Result.{Result}
+use Rattle.std.specs.declared.result.Result.the-variants.{Ok, Err}
+use Rattle.bank.specs.Calls.{opens, rated, move, take-back, day-ends, balance, statement, sums, taken-so-far, garbled}
 use Rattle.bank.specs.Calls.{Call as Meant}
 use Rattle.wire.specs.declared.call.Call.{Call}
 use Rattle.wire.specs.declared.call.Call.the-variants.{Open, Rate, Move, TakeBack, DayEnds, Balance, Statement, Sums, Taken}
@@ -18,26 +19,7 @@ meant (Statement account first last) = statement account first last
 meant Sums = sums
 meant Taken = taken-so-far
 
--- the byte that a call begins with
-abbrev pub call-number : Call → ℕ
-call-number (Open limit rate) = 0
-call-number (Rate account rate) = 1
-call-number (Move value from to amount) = 2
-call-number (TakeBack booking) = 3
-call-number DayEnds = 4
-call-number (Balance account value known) = 5
-call-number (Statement account first last) = 6
-call-number Sums = 7
-call-number Taken = 8
-
--- the numbers that follow it
-abbrev pub call-fields : Call → List ℕ
-call-fields (Open limit rate) = limit ∷ (rate ∷ [])
-call-fields (Rate account rate) = account ∷ (rate ∷ [])
-call-fields (Move value from to amount) = value ∷ (from ∷ (to ∷ (amount ∷ [])))
-call-fields (TakeBack booking) = booking ∷ []
-call-fields DayEnds = []
-call-fields (Balance account value known) = account ∷ (value ∷ (known ∷ []))
-call-fields (Statement account first last) = account ∷ (first ∷ (last ∷ []))
-call-fields Sums = []
-call-fields Taken = []
+-- what was read: a call, or bytes that are none and where they cease to be one
+abbrev pub received : Result Call ℕ → Meant
+received (Ok c) = meant c
+received (Err k) = garbled k

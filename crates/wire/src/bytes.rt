@@ -2,10 +2,10 @@
 ghost use mathlib.Core.Path.{_≡_};
 ghost use mathlib.Core.Bool.{true};
 ghost use mathlib.Core.List.{_++_};
-ghost use Prim.Native.Nat.{_+_, _-_, _≤_};
+ghost use Prim.Native.Nat.{_+_, _-_, _*_, _≤_};
 ghost use lib.ListN.{length, drop, replicate};
 ghost use Rattle.device.specs.Rows.{bytes-of, number-of, numbers, row, width, with-bytes};
-ghost use Rattle.wire.specs.Bytes.{narrow};
+ghost use Rattle.wire.specs.Bytes.{Wrote, eights, form, narrow};
 
 // The number that the `wide` bytes from `at` on are.
 pub fn number_at(bytes: &[u8], at: usize, wide: usize) -> u64
@@ -54,4 +54,34 @@ pub fn put_numbers(out: &mut [u8], at: usize, widths: &[usize], ns: &[u64]) -> u
         end += *wide;
     }
     end
+}
+
+// The widths of so many numbers of eight bytes each.
+pub(crate) fn eights(count: usize) -> &'static [usize]
+    requires { ⌜ count ≤ 8 ⌝ }
+    ensures is { λ r. ⌜ now r ≡ eights count ⌝ }
+    ensures few { λ r. ⌜ length (now r) ≡ count ⌝ ∗ ⌜ width (now r) ≡ 8 * count ⌝ ∗ ⌜ narrow (now r) ≡ true ⌝ }
+{
+    &[8; 8][0..count]
+}
+
+// Writes a byte and numbers of eight bytes each at the beginning of `out`; says where they end.
+pub(crate) fn put_form(out: &mut [u8], number: u8, ns: &[u64]) -> usize
+    requires { ⌜ length (now ns) ≤ 8 ⌝ ∗ ⌜ 1 + 8 * length (now ns) ≤ length (now out) ⌝ }
+    ensures after { λ _. ⌜ now (out .exit) ≡ with-bytes (now (out .entry)) 0 (form number (now (ns .entry))) ⌝ }
+    ensures end { λ r. ⌜ r ≡ 1 + 8 * length (now (ns .entry)) ⌝ }
+{
+    out[0] = number;
+    put_numbers(out, 1, eights(ns.len()), ns)
+}
+
+// Writes them if there is room, and says how many bytes they are.
+pub(crate) fn write_form(out: &mut [u8], number: u8, ns: &[u64]) -> Option<usize>
+    requires { ⌜ length (now ns) ≤ 8 ⌝ }
+    ensures { λ r. ⌜ Wrote (now (out .entry)) (form number (now (ns .entry))) (now (out .exit)) r ⌝ }
+{
+    if out.len() < 1 + 8 * ns.len() {
+        return None;
+    }
+    Some(put_form(out, number, ns))
 }

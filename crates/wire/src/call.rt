@@ -3,8 +3,8 @@ ghost use mathlib.Core.Path.{_≡_};
 ghost use mathlib.Core.List.{_++_};
 ghost use Prim.Native.Nat.{_-_, _<_};
 ghost use lib.ListN.{length, replicate};
-ghost use Rattle.wire.specs.Format.{call-of};
-ghost use Rattle.wire.specs.Meaning.{call-fields, call-number, meant};
+ghost use Rattle.wire.specs.Format.{call-fields, call-number, call-of};
+ghost use Rattle.wire.specs.Meaning.{meant};
 
 #[derive(Clone, Copy)]
 pub enum Call {
@@ -43,7 +43,7 @@ pub enum Call {
 impl Call {
     // The byte that a call begins with.
     pub(crate) fn number(self) -> u8
-        ensures { λ r. ⌜ r ≡ call-number self ⌝ }
+        ensures { λ r. ⌜ r ≡ call-number (meant self) ⌝ }
     {
         match self {
             Call::Open { .. } => 0,
@@ -60,7 +60,7 @@ impl Call {
 
     // The numbers that follow it, and zeros behind them.
     pub(crate) fn fields(self) -> [u64; 4]
-        ensures { λ r. ⌜ r ≡ call-fields self ++ replicate (4 - length (call-fields self)) 0 ⌝ }
+        ensures { λ r. ⌜ r ≡ call-fields (meant self) ++ replicate (4 - length (call-fields (meant self))) 0 ⌝ }
     {
         match self {
             Call::Open { limit, rate } => [limit, rate, 0, 0],
