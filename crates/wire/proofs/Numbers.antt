@@ -9,10 +9,11 @@ use native.Mathlib.Omega.{arith}
 use lib.ListN.{length, getD, set, take, drop, replicate, length-take, length-drop, length-append}
 use Rattle.std.proofs.shelf.Lists.{take-at, drop-at, drop-drop, take-append-drop, take-append-le, drop-append-le, drop-replicate, take-replicate, append-nil, length-take-le, set-at, set-split}
 use borrow.Rule.Slice.PartMut.{putMid, post-is}
-use Rattle.device.specs.Rows.{bytes-of, number-of, numbers, row, width, with-bytes}
+use Rattle.device.specs.Rows.{bytes-of, number-of, numbers, row, top, width, with-bytes}
 use Rattle.device.proofs.Rows.{length-bytes, row-length, zeros}
-use Rattle.std.proofs.shelf.Tests.{and-parts, leb-true}
-use lib.Dec.{leb}
+use Rattle.std.proofs.shelf.Tests.{and-parts, leb-true, ltb-true}
+use lib.Dec.{leb, ltb}
+use Rattle.device.specs.Device.{all-bytes}
 use Rattle.wire.specs.Bytes.{eights, form, narrow}
 
 -- what to_le_bytes writes
@@ -185,3 +186,70 @@ form-put out after ws t ns h e w =
     e ∙ ap (λ x. with-bytes (set out 0 t) 1 (row x ns)) w
     ∙ ap (λ x. with-bytes x 1 (row (eights (length ns)) ns)) (put-one out 0 t h)
     ∙ put-put out (t ∷ []) (row (eights (length ns)) ns) 0 1 refl (omega arith)
+
+-- bytes are those of the number that they are
+pub bytes-again : (k : ℕ) (bs : List ℕ) → all-bytes bs ≡ true → k ≤ length bs → bytes-of k (number-of k bs) ≡ take k bs
+unfolding bytes-of number-of all-bytes
+bytes-again zero bs b h = refl
+bytes-again (suc k) [] b h = absurd (omega arith)
+bytes-again (suc k) (x ∷ bs) b h =
+    let q = and-parts (ltb x 256) (all-bytes bs) b in
+    let small : x < 256 = ltb-true x 256 (q .0) in
+    let low : (x + 256 * number-of k bs) % 256 ≡ x = omega arith in
+    let high : (x + 256 * number-of k bs) / 256 ≡ number-of k bs = omega arith in
+    rw (low, high) (ap (λ r. x ∷ r) (bytes-again k bs (q .1) (omega arith)))
+
+pub bytes-tail : (x : ℕ) (bs : List ℕ) → all-bytes (x ∷ bs) ≡ true → all-bytes bs ≡ true
+unfolding all-bytes
+bytes-tail x bs b = and-parts (ltb x 256) (all-bytes bs) b .1
+
+bytes-rest : (k : ℕ) (bs : List ℕ) → all-bytes bs ≡ true → all-bytes (drop k bs) ≡ true
+unfolding all-bytes
+bytes-rest zero bs b = b
+bytes-rest (suc k) [] b = refl
+bytes-rest (suc k) (x ∷ bs) b = bytes-rest k bs (bytes-tail x bs b)
+
+take-sum : (k m : ℕ) (bs : List ℕ) → take k bs ++ take m (drop k bs) ≡ take (k + m) bs
+take-sum zero m bs = rw zero-add
+take-sum (suc k) zero [] = rw add-zero
+take-sum (suc k) (suc m) [] = rw suc-add
+take-sum (suc k) m (x ∷ bs) = rw suc-add (ap (λ r. x ∷ r) (take-sum k m bs))
+
+pub row-again : (ks bs : List ℕ) → all-bytes bs ≡ true → width ks ≤ length bs → row ks (numbers ks bs) ≡ take (width ks) bs
+unfolding row numbers
+row-again [] bs b h = refl
+row-again (k ∷ ks) bs b h =
+    let long : width ks ≤ length (drop k bs) = simp length-drop (omega arith) in
+    ap (λ r. r ++ row ks (numbers ks (drop k bs))) (bytes-again k bs b (omega arith))
+    ∙ ap (λ r. take k bs ++ r) (row-again ks (drop k bs) (bytes-rest k bs b) long)
+    ∙ take-sum k (width ks) bs
+
+-- and it is below what so many bytes can hold
+number-small : (k : ℕ) (bs : List ℕ) → all-bytes bs ≡ true → number-of k bs < top k
+unfolding number-of all-bytes
+number-small zero bs b = omega arith
+number-small (suc k) [] b = omega (arith, number-small k [] refl)
+number-small (suc k) (x ∷ bs) b =
+    let q = and-parts (ltb x 256) (all-bytes bs) b in
+    omega (arith, ltb-true x 256 (q .0), number-small k bs (q .1))
+
+top-small : (k : ℕ) → k ≤ 8 → top k ≤ 18446744073709551616
+top-small zero h = omega arith
+top-small (suc zero) h = omega arith
+top-small (suc (suc zero)) h = omega arith
+top-small (suc (suc (suc zero))) h = omega arith
+top-small (suc (suc (suc (suc zero)))) h = omega arith
+top-small (suc (suc (suc (suc (suc zero))))) h = omega arith
+top-small (suc (suc (suc (suc (suc (suc zero)))))) h = omega arith
+top-small (suc (suc (suc (suc (suc (suc (suc zero))))))) h = omega arith
+top-small (suc (suc (suc (suc (suc (suc (suc (suc zero)))))))) h = omega arith
+top-small (suc (suc (suc (suc (suc (suc (suc (suc (suc k))))))))) h = absurd (omega arith)
+
+word-small : (k : ℕ) → k ≤ 8 → (n : ℕ) → n < top k → n < 18446744073709551616
+word-small k h n l = omega (arith, top-small k h)
+
+pub numbers-small : (ks bs : List ℕ) → all-bytes bs ≡ true → narrow ks ≡ true → (i : ℕ) → getD (numbers ks bs) i 0 < 18446744073709551616
+unfolding numbers
+numbers-small [] bs b n i = omega arith
+numbers-small (k ∷ ks) bs b n zero = let q = and-parts (leb k 8) (narrow ks) n in word-small k (leb-true k 8 (q .0)) (number-of k bs) (number-small k bs b)
+numbers-small (k ∷ ks) bs b n (suc i) = numbers-small ks (drop k bs) (bytes-rest k bs b) (and-parts (leb k 8) (narrow ks) n .1) i

@@ -14,14 +14,10 @@ use Rattle.model.proofs.Taken.{never}
 use Rattle.wire.specs.declared.call.Call.{Call}
 use Rattle.wire.specs.declared.call.Call.the-variants.{Open, Rate, Move, TakeBack, DayEnds, Balance, Statement, Sums, Taken}
 use Rattle.wire.specs.Meaning.{meant}
-use Rattle.wire.specs.Format.{call-fields, call-number, call-of}
+use Rattle.wire.specs.Format.{call-number, call-of}
 use Rattle.std.proofs.shelf.Lists.{drop-drop}
 use Rattle.wire.proofs.Numbers.{getD-zeros, length-put, put-part, put-put}
-use Rattle.wire.proofs.Calls.{same-call}
-
--- a call's numbers as the code has them
-abbrev padded : Call → List ℕ
-padded c = call-fields (meant c) ++ replicate (4 - length (call-fields (meant c))) 0
+use Rattle.wire.proofs.Calls.{padded, same-call}
 
 -- the row by a kind, widths and numbers
 abbrev laid : ℕ → List ℕ → List ℕ → List ℕ
