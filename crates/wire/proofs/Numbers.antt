@@ -7,7 +7,7 @@ use native.Mathlib.Nat.{div-div-eq-div-mul, add-assoc, add-zero, zero-add, suc-a
 use native.Mathlib.Numerals.{add-one}
 use native.Mathlib.Omega.{arith}
 use lib.ListN.{length, getD, set, take, drop, replicate, length-take, length-drop, length-append}
-use Rattle.std.proofs.shelf.Lists.{take-at, drop-at, drop-drop, take-append-drop, take-append-le, drop-append-le, drop-replicate, take-replicate, append-nil, length-take-le, set-at, set-split}
+use Rattle.std.proofs.shelf.Lists.{take-at, drop-at, drop-drop, take-append-drop, take-append-le, drop-append-le, drop-replicate, take-replicate, append-nil, length-take-le, set-at, set-split, drop-take}
 use borrow.Rule.Slice.PartMut.{putMid, post-is}
 use Rattle.device.specs.Rows.{bytes-of, number-of, numbers, row, top, width, with-bytes}
 use Rattle.device.proofs.Rows.{length-bytes, row-length, zeros}
@@ -253,3 +253,48 @@ unfolding numbers
 numbers-small [] bs b n i = omega arith
 numbers-small (k ∷ ks) bs b n zero = let q = and-parts (leb k 8) (narrow ks) n in word-small k (leb-true k 8 (q .0)) (number-of k bs) (number-small k bs b)
 numbers-small (k ∷ ks) bs b n (suc i) = numbers-small ks (drop k bs) (bytes-rest k bs b) (and-parts (leb k 8) (narrow ks) n .1) i
+
+-- what stands before and behind what was written is as it was
+pub put-before : (xs ys : List ℕ) (at i k : ℕ) → at ≤ length xs → i + k ≤ at → take k (drop i (with-bytes xs at ys)) ≡ take k (drop i xs)
+put-before xs ys at i k h b =
+    let l : i ≤ length (take at xs) = simp length-take (omega arith) in
+    let m : k ≤ length (drop i (take at xs)) = simp (length-drop, length-take) (omega arith) in
+    let front : (r : List ℕ) → take k (drop i (take at xs ++ r)) ≡ take k (drop i (take at xs)) =
+    λ r. ap (take k) (drop-append-le i (take at xs) r l) ∙ take-append-le k (drop i (take at xs)) r m in
+    front (ys ++ drop (at + length ys) xs) ∙ sym (ap (λ x. take k (drop i x)) (sym (take-append-drop at xs)) ∙ front (drop at xs))
+
+pub put-behind : (xs ys : List ℕ) (at i : ℕ) → at + length ys ≤ length xs → at + length ys ≤ i → drop i (with-bytes xs at ys) ≡ drop i xs
+put-behind xs ys at i h b =
+    let e : ℕ = at + length ys in
+    let l : length (take at xs ++ ys) ≡ e = simp (length-append, length-take) (omega arith) in
+    let s : i ≡ e + (i - e) = omega arith in
+    ap (λ n. drop n (with-bytes xs at ys)) s
+    ∙ sym (drop-drop (i - e) e (with-bytes xs at ys))
+    ∙ ap (drop (i - e)) (ap (drop e) (sym (append-assoc (take at xs) ys (drop e xs))) ∙ drop-at (take at xs ++ ys) (drop e xs) e l)
+    ∙ drop-drop (i - e) e xs
+    ∙ ap (λ n. drop n xs) (sym s)
+
+-- and at its place stands what was written
+pub put-there : (xs ys : List ℕ) (at : ℕ) → at ≤ length xs → drop at (with-bytes xs at ys) ≡ ys ++ drop (at + length ys) xs
+put-there xs ys at h = drop-at (take at xs) (ys ++ drop (at + length ys) xs) at (length-take-le at xs h)
+
+-- numbers are read from the bytes that they have
+pub number-within : (k n : ℕ) (bs : List ℕ) → k ≤ n → number-of k (take n bs) ≡ number-of k bs
+unfolding number-of
+number-within zero n bs h = refl
+number-within (suc k) zero bs h = absurd (omega arith)
+number-within (suc k) (suc n) [] h = refl
+number-within (suc k) (suc n) (b ∷ bs) h = ap (λ r. b + 256 * r) (number-within k n bs (omega arith))
+
+drop-within : (k n : ℕ) (bs : List ℕ) → k ≤ n → drop k (take n bs) ≡ take (n - k) (drop k bs)
+drop-within k n bs h = let s : n ≡ k + (n - k) = omega arith in ap (λ m. drop k (take m bs)) s ∙ drop-take k (n - k) bs
+
+front-numbers : (ks bs : List ℕ) (n : ℕ) → width ks ≤ n → numbers ks (take n bs) ≡ numbers ks bs
+unfolding numbers
+front-numbers [] bs n h = refl
+front-numbers (k ∷ ks) bs n h =
+    ap (λ x. x ∷ numbers ks (drop k (take n bs))) (number-within k n bs (omega arith))
+    ∙ ap (λ x. number-of k bs ∷ x) (ap (numbers ks) (drop-within k n bs (omega arith)) ∙ front-numbers ks (drop k bs) (n - k) (omega arith))
+
+pub numbers-within : (ks bs : List ℕ) (i n : ℕ) → i + width ks ≤ n → numbers ks (drop i (take n bs)) ≡ numbers ks (drop i bs)
+numbers-within ks bs i n h = ap (numbers ks) (drop-within i n bs (omega arith)) ∙ front-numbers ks (drop i bs) (n - i) (omega arith)

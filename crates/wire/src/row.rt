@@ -16,7 +16,7 @@ ghost use lib.ListN.{length};
 ghost use Rattle.device.specs.Rows.{row-of, width, with-bytes};
 ghost use Rattle.model.specs.JournalBlock.{call-row, call-widths, stored};
 ghost use Rattle.wire.specs.Bytes.{narrow};
-ghost use Rattle.wire.specs.JournalRow.{Row-at};
+ghost use Rattle.wire.specs.JournalRow.{Apart, Empty, Has-row, Remembers, Row-at};
 ghost use Rattle.wire.specs.Meaning.{meant};
 use crate::bytes::number_at;
 use crate::bytes::numbers_at;
@@ -62,4 +62,14 @@ pub fn read_row(block: &[u8], at: usize) -> Option<Call>
     }
     let numbers = numbers_at(block, at + 2, widths(kind));
     Some(Call::from_fields((kind - 1) as u8, &numbers))
+}
+
+// Theorems of rows: what was written is read there, other places stay as they were, zeros hold none, and what a book takes has one.
+pub fn rows_stand() -> u8
+    ensures back { λ _. ⌜ Remembers ⌝ }
+    ensures apart { λ _. ⌜ Apart ⌝ }
+    ensures empty { λ _. ⌜ Empty ⌝ }
+    ensures taken { λ _. ⌜ Has-row ⌝ }
+{
+    0
 }
