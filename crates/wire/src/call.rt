@@ -1,4 +1,16 @@
-// What the bank is told and asked: each call with its numbers, and the row of bytes that it is.
+// What the bank is told and asked, and a call as a row of bytes: a byte, and numbers of eight bytes each, low byte first.
+//
+// | byte | call | numbers |
+// |---|---|---|
+// | 0 | open | limit, rate |
+// | 1 | rate | account, rate |
+// | 2 | move | value day, from, to, amount |
+// | 3 | take back | booking |
+// | 4 | day ends | |
+// | 5 | balance | account, value day, day at whose end it is known |
+// | 6 | statement | account, first day, last day |
+// | 7 | sums | |
+// | 8 | taken | |
 ghost use mathlib.Core.Path.{_≡_};
 ghost use mathlib.Core.List.{_++_};
 ghost use Prim.Native.Nat.{_-_, _<_};
@@ -10,6 +22,9 @@ ghost use Rattle.wire.specs.Meaning.{meant, received};
 use crate::bytes::eights;
 use crate::bytes::numbers_at;
 use crate::bytes::write_form;
+
+// How many numbers follow the byte that a call begins with.
+const FIELDS: [usize; 9] = [2, 2, 4, 1, 0, 3, 3, 0, 0];
 
 #[derive(Clone, Copy)]
 pub enum Call {
@@ -128,9 +143,6 @@ impl Call {
         }
     }
 }
-
-// How many numbers follow the byte that a call begins with.
-const FIELDS: [usize; 9] = [2, 2, 4, 1, 0, 3, 3, 0, 0];
 
 // The call that bytes begin with and the bytes behind it, or the first byte that does not fit.
 pub fn read_first(bytes: &[u8]) -> Result<(Call, &[u8]), usize>
