@@ -192,9 +192,9 @@ own-row =
     (λ t bs c b e. absurd (never-garbled c 0 e))
     (λ t bs c b e. absurd (never-garbled c (suc (length bs)) e))
     (λ t bs h l c b e.
-      let q = alone-is (suc (length bs)) (call-of t (numbers (eights (arity t)) bs)) (drop (8 * arity t) bs) c e in
-      let left : length bs - 8 * arity t ≡ 0 = sym (length-drop (8 * arity t) bs) ∙ ap length (q .1) in
-      sym (written-of t bs h (bytes-tail t bs b) (omega arith)) ∙ ap written-call (q .0))
+    let q = alone-is (suc (length bs)) (call-of t (numbers (eights (arity t)) bs)) (drop (8 * arity t) bs) c e in
+    let left : length bs - 8 * arity t ≡ 0 = sym (length-drop (8 * arity t) bs) ∙ ap length (q .1) in
+    sym (written-of t bs h (bytes-tail t bs b) (omega arith)) ∙ ap written-call (q .0))
 
 pub one-row : One-row
 one-row bs cs c b d e f = own-row bs c b e ∙ sym (own-row cs c d f)
@@ -228,8 +228,8 @@ always-readable =
     (λ t bs b h. carried 0 (omega arith))
     (λ t bs b h. carried (suc (length bs)) h)
     (λ t bs k l b h.
-      alone-readable (suc (length bs)) (call-of t (numbers (eights (arity t)) bs)) (drop (8 * arity t) bs) h
-      (call-readable t (numbers (eights (arity t)) bs) (λ i. lt-ltb (getD (numbers (eights (arity t)) bs) i 0) 18446744073709551616 (numbers-small (eights (arity t)) bs (bytes-tail t bs b) (narrow-eights (arity t)) i))))
+    alone-readable (suc (length bs)) (call-of t (numbers (eights (arity t)) bs)) (drop (8 * arity t) bs) h
+    (call-readable t (numbers (eights (arity t)) bs) (λ i. lt-ltb (getD (numbers (eights (arity t)) bs) i 0) 18446744073709551616 (numbers-small (eights (arity t)) bs (bytes-tail t bs b) (narrow-eights (arity t)) i))))
 
 pub examples : Examples
 unfolding numbers number-of row bytes-of

@@ -33,7 +33,9 @@ pub enum Answer {
 
 // How many bytes the longest answer without bookings has, the count before bookings, and a booking.
 const PLAIN: usize = 17;
+
 const HEAD: usize = 9;
+
 const LINE: usize = 56;
 
 // How many bytes suffice for every answer of a book with at most so many bookings.

@@ -36,27 +36,20 @@ fn expected(size: usize, len: usize) -> Option<usize> {
     }
 }
 
-// The row of a call in bytes that were all ones before, and its length, or 0 where there is no room for it in so many bytes.
-fn written(call: Call, room: usize) -> ([u8; 40], usize)
-    requires { ⌜ room ≤ 40 ⌝ }
-{
+// A call is written so, with nothing behind it changed, and not into a byte less; and it is read again.
+fn check_row(call: Call, row: &[u8]) -> Result<(), Fail> {
     let mut out = [0xff; 40];
-    match write_call(&mut out[0..room], call) {
-        Some(len) => (out, len),
-        None => (out, 0),
-    }
-}
-
-// A call is written so, not into a byte less, and is read again.
-fn check_row(call: Call, len: usize, bytes: [u8; 40]) -> Result<(), Fail> {
-    check(0 < len && len <= 40)?;
-    check_eq(written(call, 40), (bytes, len))?;
-    check_eq(written(call, len), (bytes, len))?;
-    check_eq(written(call, len - 1), ([0xff; 40], 0))?;
-    let Ok(again) = read_call(&bytes[0..len]) else {
-        return Err(Fail::new("read"));
+    check(0 < row.len() && row.len() <= 40)?;
+    check_eq(write_call(&mut out[0..row.len() - 1], call), None)?;
+    check_eq(out, [0xff; 40])?;
+    check_eq(write_call(&mut out, call), Some(row.len()))?;
+    check_eq(&out[0..row.len()], row)?;
+    check_eq(&out[row.len()..40], &[0xff; 40][row.len()..40])?;
+    let Ok(again) = read_call(row) else {
+        return Err(Fail::new("no call"));
     };
-    check_eq(written(again, 40), (bytes, len))
+    check_eq(write_call(&mut out, again), Some(row.len()))?;
+    check_eq(&out[0..row.len()], row)
 }
 
 #[test]
@@ -83,50 +76,29 @@ fn no_call_begins_so() -> Result<(), Fail> {
 
 #[test]
 fn rows_of_calls() -> Result<(), Fail> {
-    let most = u64::MAX;
+    let open = Call::Open {
+        limit: 1,
+        rate: 0x0201,
+    };
+    check_row(open, b"\x00\x01\0\0\0\0\0\0\0\x01\x02\0\0\0\0\0\0")?;
+    let order = Call::Move {
+        value: 0x0102030405060708,
+        from: u64::MAX,
+        to: 0,
+        amount: 100_000_000_000,
+    };
     check_row(
-        Call::Open {
-            limit: 1,
-            rate: 0x0201,
-        },
-        17,
-        [
-            0, 1, 0, 0, 0, 0, 0, 0, 0, 1, 2, 0, 0, 0, 0, 0, 0, 255, 255, 255, 255, 255, 255, 255,
-            255, 255, 255, 255, 255, 255, 255, 255, 255, 255, 255, 255, 255, 255, 255, 255,
-        ],
+        order,
+        b"\x02\x08\x07\x06\x05\x04\x03\x02\x01\xff\xff\xff\xff\xff\xff\xff\xff\0\0\0\0\0\0\0\0\0\xe8\x76\x48\x17\0\0\0",
     )?;
+    let balance = Call::Balance {
+        account: 4095,
+        value: 3650,
+        known: 30,
+    };
     check_row(
-        Call::Move {
-            value: 0x0102030405060708,
-            from: most,
-            to: 0,
-            amount: 100_000_000_000,
-        },
-        33,
-        [
-            2, 8, 7, 6, 5, 4, 3, 2, 1, 255, 255, 255, 255, 255, 255, 255, 255, 0, 0, 0, 0, 0, 0, 0,
-            0, 0, 232, 118, 72, 23, 0, 0, 0, 255, 255, 255, 255, 255, 255, 255,
-        ],
+        balance,
+        b"\x05\xff\x0f\0\0\0\0\0\0\x42\x0e\0\0\0\0\0\0\x1e\0\0\0\0\0\0\0",
     )?;
-    check_row(
-        Call::Balance {
-            account: 4095,
-            value: 3650,
-            known: 3650,
-        },
-        25,
-        [
-            5, 255, 15, 0, 0, 0, 0, 0, 0, 66, 14, 0, 0, 0, 0, 0, 0, 66, 14, 0, 0, 0, 0, 0, 0, 255,
-            255, 255, 255, 255, 255, 255, 255, 255, 255, 255, 255, 255, 255, 255,
-        ],
-    )?;
-    check_row(
-        Call::Taken,
-        1,
-        [
-            8, 255, 255, 255, 255, 255, 255, 255, 255, 255, 255, 255, 255, 255, 255, 255, 255, 255,
-            255, 255, 255, 255, 255, 255, 255, 255, 255, 255, 255, 255, 255, 255, 255, 255, 255,
-            255, 255, 255, 255, 255,
-        ],
-    )
+    check_row(Call::Taken, b"\x08")
 }

@@ -17,15 +17,24 @@ fn written(call: Call) -> [u8; 40]
     block
 }
 
+// The bytes around a row are as they were, and the row's are these.
+fn check_block(block: [u8; 40], row: &[u8]) -> Result<(), Fail> {
+    check_eq(&block[0..10], &[0xff; 10][0..10])?;
+    check_eq(&block[10..30], row)?;
+    check_eq(&block[30..40], &[0xff; 10][0..10])
+}
+
 // The numbers of the move whose row stands there, in their order; none where another or no row does.
 fn move_in(block: &[u8; 40]) -> Option<(u64, u64, u64, u64)> {
     match read_row(block, 10) {
-        Some(Call::Move {
-            value,
-            from,
-            to,
-            amount,
-        }) => Some((value, from, to, amount)),
+        Some(
+            Call::Move {
+                value,
+                from,
+                to,
+                amount,
+            },
+        ) => Some((value, from, to, amount)),
         _ => None,
     }
 }
@@ -47,12 +56,9 @@ fn rows_of_taken_calls() -> Result<(), Fail> {
         limit: 5000,
         rate: 365,
     };
-    check_eq(
+    check_block(
         written(open),
-        [
-            255, 255, 255, 255, 255, 255, 255, 255, 255, 255, 1, 0, 136, 19, 0, 0, 0, 0, 0, 0, 109,
-            1, 0, 0, 0, 0, 0, 0, 0, 0, 255, 255, 255, 255, 255, 255, 255, 255, 255, 255,
-        ],
+        b"\x01\0\x88\x13\0\0\0\0\0\0\x6d\x01\0\0\0\0\0\0\0\0",
     )?;
     let order = Call::Move {
         value: 3650,
@@ -60,24 +66,15 @@ fn rows_of_taken_calls() -> Result<(), Fail> {
         to: 2,
         amount: 100_000_000_000,
     };
-    check_eq(
-        written(order),
-        [
-            255, 255, 255, 255, 255, 255, 255, 255, 255, 255, 3, 0, 66, 14, 255, 15, 2, 0, 0, 232,
-            118, 72, 23, 0, 0, 0, 0, 0, 0, 0, 255, 255, 255, 255, 255, 255, 255, 255, 255, 255,
-        ],
+    let block = written(order);
+    check_block(
+        block,
+        b"\x03\0\x42\x0e\xff\x0f\x02\0\0\xe8\x76\x48\x17\0\0\0\0\0\0\0",
     )?;
-    check_eq(
-        move_in(&written(order)),
-        Some((3650, 4095, 2, 100_000_000_000)),
-    )?;
-    let back = Call::TakeBack { booking: 999_999 };
-    check_eq(
-        written(back),
-        [
-            255, 255, 255, 255, 255, 255, 255, 255, 255, 255, 4, 0, 63, 66, 15, 0, 0, 0, 0, 0, 0,
-            0, 0, 0, 0, 0, 0, 0, 0, 0, 255, 255, 255, 255, 255, 255, 255, 255, 255, 255,
-        ],
+    check_eq(move_in(&block), Some((3650, 4095, 2, 100_000_000_000)))?;
+    check_block(
+        written(Call::TakeBack { booking: 999_999 }),
+        b"\x04\0\x3f\x42\x0f\0\0\0\0\0\0\0\0\0\0\0\0\0\0\0",
     )
 }
 

@@ -13,10 +13,6 @@ pub written-requires-2 : need.written-requires-2
 unfolding asks fits-in call-kind call-numbers call-widths
 written-requires-2 c κs = refl
 
-pub written-requires-4 : need.written-requires-4
+pub written-block-requires : need.written-block-requires
 unfolding asks fits-in call-kind call-numbers call-widths
-written-requires-4 c κs = refl
-
-pub written-requires-3 : need.written-requires-3
-unfolding asks fits-in call-kind call-numbers call-widths
-written-requires-3 c κs = refl
+written-block-requires c κs = refl
