@@ -9,6 +9,7 @@ use lib.ListN.{length, getD, set}
 use Rattle.std.proofs.shelf.Counted.{length-map-counting, getD-map-counting, map-counting-more}
 use Rattle.std.proofs.shelf.Lists.{ext-getD, getD-set-same, getD-set-other, length-set}
 use Rattle.std.proofs.shelf.Tests.{cases-eq}
+use Rattle.bank.proofs.Tally.{Each, each-append}
 use Rattle.columns.specs.Firsts.{first-of}
 
 module _ {X : Type 0} where
@@ -51,3 +52,9 @@ module _ {X : Type 0} where
         | inl same ↦ rw same (getD-set-same (first-of f n) i x (g 0) below ∙ sym e)
         | inr other ↦ getD-set-other (first-of f n) i k x (g 0) other ∙ getD-first f n k (g 0) u ∙ sym (h k u other)
       ])
+
+  -- what holds of each below n
+  pub each-first : (P : X → Type 0) (f : ℕ → X) (n : ℕ) → ((k : ℕ) → k < n → P (f k)) → Each P (first-of f n)
+  each-first P f zero h = rw (first-none f) tt
+  each-first P f (suc n) h =
+      rw (ap (first-of f) (sym (add-one n)) ∙ first-more f n) (each-append P (first-of f n) (f n ∷ []) (each-first P f n (λ k u. h k (omega arith))) (h n (omega arith), tt))

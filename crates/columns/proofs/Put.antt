@@ -140,15 +140,22 @@ appended-last c d b p =
     sym (getD-first (row d) (d .count) (c .count) none-there (omega arith)) ∙ ap (λ bs. getD bs (c .count) none-there) (p .rows)
     ∙ getD-push (rows c) b none-there (c .count) (length-first (row c) (c .count))
 
+pub marked-here : (c d : Bookings) (i t : ℕ) → Marked c d i t → i < c .count → row d i ≡ marked t (row c i)
+marked-here c d i t p v =
+    sym (getD-first (row d) (d .count) i none-there (omega arith)) ∙ ap (λ bs. getD bs i none-there) (p .rows)
+    ∙ getD-set-same (rows c) i (marked t (getD (rows c) i none-there)) none-there (omega (arith, length-first (row c) (c .count))) ∙ ap (marked t) (getD-first (row c) (c .count) i none-there v)
+
+pub marked-other : (c d : Bookings) (i t k : ℕ) → Marked c d i t → k < c .count → k ≢ i → row d k ≡ row c k
+marked-other c d i t k p u ne =
+    sym (getD-first (row d) (d .count) k none-there (omega arith)) ∙ ap (λ bs. getD bs k none-there) (p .rows)
+    ∙ getD-set-other (rows c) i k (marked t (getD (rows c) i none-there)) none-there ne ∙ getD-first (row c) (c .count) k none-there u
+
+-- what a mark does not change
 pub marked-keeps : (f : Booking → ℕ) → ((t : ℕ) (b : Booking) → f (marked t b) ≡ f b) → (c d : Bookings) (i t k : ℕ) → Marked c d i t → i < c .count → k < c .count → f (row d k) ≡ f (row c k)
 marked-keeps f same c d i t k p v u =
-    let e : row d k ≡ getD (set (rows c) i (marked t (getD (rows c) i none-there))) k none-there =
-    sym (getD-first (row d) (d .count) k none-there (omega arith)) ∙ ap (λ bs. getD bs k none-there) (p .rows) in
-    let g = getD-first (row c) (c .count) k none-there u in
     elim (cases-eq k i) [
-      | inl q ↦ ap f e ∙ rw q (ap f (getD-set-same (rows c) i (marked t (getD (rows c) i none-there)) none-there (omega (arith, length-first (row c) (c .count))))
-          ∙ same t (getD (rows c) i none-there) ∙ ap f (getD-first (row c) (c .count) i none-there v))
-      | inr q ↦ ap f (e ∙ getD-set-other (rows c) i k (marked t (getD (rows c) i none-there)) none-there q ∙ g)
+      | inl q ↦ rw q (ap f (marked-here c d i t p v) ∙ same t (row c i))
+      | inr q ↦ ap f (marked-other c d i t k p u q)
     ]
 
 -- sums over the first n rows

@@ -1,0 +1,4 @@
+pub mod Bank
+pub mod Live
+pub mod Effect
+pub mod Fresh
