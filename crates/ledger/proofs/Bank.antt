@@ -11,14 +11,14 @@ use Rattle.bank.specs.Builders.{no-account, booking-at}
 use Rattle.bank.specs.Calls.{limit-of, none-there, rates-in}
 use Rattle.model.specs.Register.{Dated}
 use Rattle.model.specs.Snapshot.{rates-of, accounts-of}
-use Rattle.model.proofs.Count.{rates-set}
+use Rattle.model.proofs.Count.{rates-set as rates-one-more}
 use Rattle.model.proofs.Register.{accounts-put, with-rate, rate-of}
 use Rattle.columns.specs.Cells.{limits-in}
 use Rattle.columns.specs.Firsts.{first-of}
 use Rattle.columns.specs.RateRows.{rate-row, rate-rows}
 use Rattle.columns.specs.Rows.{row, rows}
 use Rattle.columns.proofs.First.{length-first, getD-first, first-more, first-none}
-use Rattle.ledger.specs.Meaning.{bank}
+use Rattle.ledger.specs.Meaning.{bank, rates-set, rate-at}
 use Rattle.ledger.specs.Whole.{Whole}
 use Rattle.ledger.specs.declared.Ledger.{Ledger}
 
@@ -61,6 +61,14 @@ pub bank-done : (g : Ledger) → bank g .done ≡ g .done
 unfolding bank
 bank-done g = refl
 
+pub bank-set : (g : Ledger) → length (rates-set g) ≡ g .rates .count
+unfolding rates-set
+bank-set g = length-first (rate-row (g .rates)) (g .rates .count)
+
+pub bank-rate : (g : Ledger) (i : ℕ) → i < g .rates .count → rate-at g i ≡ rate-row (g .rates) i
+unfolding rates-set
+bank-rate g i h = getD-first (rate-row (g .rates)) (g .rates .count) i _ h
+
 -- every rate belongs to one account, so the rates of all accounts are those in the columns
 none-rated : (a : ℕ) (ms : List ℕ) → rates-in (accounts-of a ms []) ≡ 0
 unfolding accounts-of rates-of rates-in
@@ -77,7 +85,7 @@ rates-upto ms f (suc n) h =
     let y : Account = with-rate (getD xs a no-account) (rate-of (f n)) in
     let l : length (y .rates) ≡ suc (length (getD xs a no-account .rates)) = simp length-append (omega arith) in
     ap (λ m. rates-in (accounts-of 0 ms (first-of f m))) (sym (add-one n)) ∙ ap (λ r. rates-in (accounts-of 0 ms r)) (first-more f n)
-    ∙ ap rates-in (accounts-put 0 ms rs (f n) no-account a (omega arith) u) ∙ rates-set xs a no-account y (omega (arith, accounts-length 0 ms rs)) l
+    ∙ ap rates-in (accounts-put 0 ms rs (f n) no-account a (omega arith) u) ∙ rates-one-more xs a no-account y (omega (arith, accounts-length 0 ms rs)) l
     ∙ ap suc (rates-upto ms f n (λ i v. h i (omega arith)))
 
 pub bank-rates : (g : Ledger) → Whole g → rates-in (bank g .accounts) ≡ g .rates .count

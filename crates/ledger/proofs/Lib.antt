@@ -2,3 +2,4 @@ pub mod Bank
 pub mod Live
 pub mod Effect
 pub mod Fresh
+pub mod Walk

@@ -2,7 +2,7 @@
 use mathlib.Core.List.{List, [], _∷_}
 use Prim.Native.Nat.{ℕ, _+_}
 use lib.Dec.{eqb}
-use lib.ListN.{length}
+use lib.ListN.{length, getD}
 use Rattle.bank.specs.Book.{pick, Rate, Account, Booking, Bank}
 use Rattle.bank.specs.Calls.{Limits}
 use Rattle.bank.specs.Effects.{Effect, books, marks, adds, rates, turns}
@@ -21,6 +21,10 @@ bank g =
 -- all its rates, in the order in which they were set
 unfoldable pub rates-set : Ledger → List Dated
 rates-set g = rate-rows (g .rates)
+
+-- rate i of these
+abbrev pub rate-at : Ledger → ℕ → Dated
+rate-at g i = getD (rates-set g) i (record { account = 0; since = 0; rate = 0 })
 
 -- both
 abbrev pub register : Ledger → Register

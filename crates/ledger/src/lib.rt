@@ -5,8 +5,11 @@ use columns::chains::Chains;
 use columns::rates::Rates;
 use columns::scratch::Scratch;
 
+pub mod balances;
+pub mod checks;
 pub mod effects;
 pub mod opening;
+pub mod views;
 
 // A bank's book in the columns that it was cut into.
 #[derive(Drop)]
