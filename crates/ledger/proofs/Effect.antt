@@ -12,7 +12,7 @@ use lib.ListN.{length, getD, set}
 use denote.Ref.{now}
 use Rattle.std.proofs.shelf.Tests.{cases-eq, ne-eqb}
 use Rattle.bank.specs.Book.{pick, Rate, Account, Booking, Bank}
-use Rattle.bank.specs.Builders.{no-account, new-account, booking-at}
+use Rattle.bank.specs.Builders.{no-account, new-account, booking-at, with-today, counted}
 use Rattle.bank.specs.Calls.{marked, none-there}
 use Rattle.bank.specs.Effects.{books, marks, adds, rates, turns, made}
 use Rattle.model.specs.Register.{Dated}
@@ -23,13 +23,14 @@ use Rattle.columns.specs.Firsts.{first-of}
 use Rattle.columns.specs.Links.{Linkable, Chained, Begun, Linked}
 use Rattle.columns.specs.RateRows.{rate-row, rate-rows, Rated, Rate-added}
 use Rattle.columns.specs.Rows.{row, rows, Sound, Appended, Marked}
+use Rattle.columns.specs.Spare.{Spare}
 use Rattle.columns.proofs.Chain.{chained-same, linkable-linked, chained-push, linkable-begun, chained-begun}
 use Rattle.columns.proofs.First.{length-first, getD-first, each-first}
 use Rattle.columns.proofs.Put.{appended-row, appended-last, marked-here, marked-other, marked-keeps}
 use Rattle.columns.proofs.Running.{sums-push, sums-drop, roomy-credited, roomy-debited, roomy-added, sums-added, limits-added, limits-same}
 use Rattle.columns.specs.declared.rates.Rates.{Rates}
-use Rattle.ledger.specs.Meaning.{bank, rates-set, limits, backs, spent}
-use Rattle.ledger.specs.Whole.{Fit, Whole, Made, Called}
+use Rattle.ledger.specs.Meaning.{bank, rates-set, limits, backs, most-done, with-done, bare-account}
+use Rattle.ledger.specs.Whole.{Fit, Whole, Made, Becomes}
 use Rattle.ledger.specs.declared.Ledger.{Ledger}
 use Rattle.ledger.proofs.Bank.{accounts-length, bank-accounts, bank-count, bank-row, bank-today}
 use Rattle.ledger.proofs.Live.{none-to, none-from, none-ordered}
@@ -52,7 +53,7 @@ backs-le [] = omega arith
 backs-le (x ∷ bs) = elim (eqb (x .back) 0) as (λ t. pick t 0 1 + backs bs ≤ suc (length bs)) [ true ↦ omega (arith, backs-le bs) | false ↦ omega (arith, backs-le bs) ]
 
 -- so many calls can have changed the book
-pub done-small : (g : Ledger) → Whole g → g .done ≤ 2020034
+pub done-small : (g : Ledger) → Whole g → g .done ≤ 4296987330
 done-small g w =
     omega (arith, w .done, w .today, w .rates .count, w .rates .capacity, w .bookings .count, w .bookings .capacity, backs-le (rows (g .bookings)), length-first (row (g .bookings)) (g .bookings .count))
 
@@ -71,8 +72,8 @@ module _ (g h : Ledger) (b : Booking) (w : Whole g) (f : Fit (g .today) (g .acco
   unfolding bank made
   booked-bank = let a = limits-same (g .accounts) (h .accounts) (k .limit) (k .count) in let r = p .rows in cc
 
-  booked-spent : suc (spent g) ≤ spent h
-  booked-spent = omega (arith, t, p .count, ap (λ r. r .count) q, ap backs (p .rows), backs-push (rows (g .bookings)) b)
+  booked-most : suc (most-done g) ≤ most-done h
+  booked-most = omega (arith, t, p .count, ap (λ r. r .count) q, ap backs (p .rows), backs-push (rows (g .bookings)) b)
 
   booked-fit : (i : ℕ) → i < h .bookings .count → Fit (h .today) (h .accounts .count) (row (h .bookings) i)
   booked-fit i u =
@@ -91,7 +92,7 @@ module _ (g h : Ledger) (b : Booking) (w : Whole g) (f : Fit (g .today) (g .acco
     sums = rw (p .rows) (sums-push (g .accounts) (h .accounts) (rows (g .bookings)) b (w .accounts) (f .from) (f .to) (w .sums) k);
     fit = booked-fit;
     today = rw t (w .today);
-    done = omega (arith, w .done, booked-spent, d);
+    done = omega (arith, w .done, booked-most, d);
     to-room = rw (k .capacity, p .capacity) (linkable-linked (g .incoming) (h .incoming) _ _ _ _ (w .to-room) l);
     from-room = rw (k .capacity, p .capacity) (linkable-linked (g .outgoing) (h .outgoing) _ _ _ _ (w .from-room) o);
     incoming = rw (p .count, k .count)
@@ -111,7 +112,7 @@ module _ (g h : Ledger) (b : Booking) (w : Whole g) (f : Fit (g .today) (g .acco
     rates-are = ap rate-rows q ∙ sym (append-nil (rate-rows (g .rates)));
     whole = booked-whole;
     limits-stay = let a = k .capacity in let c = p .capacity in cc;
-    unit = omega (arith, w .done, booked-spent, d);
+    unit = omega (arith, w .done, booked-most, d);
   }
 
 -- booking i, which is b
@@ -133,8 +134,8 @@ module _ (g h : Ledger) (i : ℕ) (b : Booking) (w : Whole g) (u : i < g .bookin
   unfolding bank made
   marked-bank = let a = limits-same (g .accounts) (h .accounts) (k .limit) (k .count) in let r = p .rows in cc
 
-  marked-spent : spent h ≡ suc (spent g)
-  marked-spent =
+  marked-most : most-done h ≡ suc (most-done g)
+  marked-most =
       let y : Booking = marked (g .today) (getD (rows (g .bookings)) i none-there) in
       omega (arith, t, p .count, ap (λ r. r .count) q, ap backs (p .rows), backs-set (rows (g .bookings)) i none-there y (there g i b u) (ap (λ c. c .back) (at g i b u e) ∙ z) (ne-eqb (suc (g .today)) 0 (λ n. omega (arith, n))))
 
@@ -158,7 +159,7 @@ module _ (g h : Ledger) (i : ℕ) (b : Booking) (w : Whole g) (u : i < g .bookin
         (λ n. omega (arith, n)) (w .sums) (h .accounts) k);
     fit = marked-fit;
     today = rw t (w .today);
-    done = omega (arith, w .done, marked-spent, d);
+    done = omega (arith, w .done, marked-most, d);
     to-room = rw (x, k .capacity, p .capacity) (w .to-room);
     from-room = rw (o, k .capacity, p .capacity) (w .from-room);
     incoming = rw (x, p .count, k .count) (chained-same (g .incoming) (λ j. row (g .bookings) j .to) (λ j. row (h .bookings) j .to) (g .bookings .count) (g .accounts .count) (w .incoming)
@@ -174,52 +175,58 @@ module _ (g h : Ledger) (i : ℕ) (b : Booking) (w : Whole g) (u : i < g .bookin
     rates-are = ap rate-rows q ∙ sym (append-nil (rate-rows (g .rates)));
     whole = marked-whole;
     limits-stay = let a = k .capacity in let c = p .capacity in cc;
-    unit = omega (arith, w .done, marked-spent, d);
+    unit = omega (arith, w .done, marked-most, d);
   }
 
--- the next day
-module _ (g h : Ledger) (w : Whole g) (u : g .today < 3650) (t : h .today ≡ g .today + 1) (d : h .done ≡ g .done) (a : h .accounts ≡ g .accounts) (r : h .rates ≡ g .rates) (b : h .bookings ≡ g .bookings)
+-- a later day
+module _ (g h : Ledger) (w : Whole g) (u : h .today ≤ 3650) (t : g .today ≤ h .today) (d : h .done ≡ g .done) (a : h .accounts ≡ g .accounts) (r : h .rates ≡ g .rates) (b : h .bookings ≡ g .bookings)
     (i : h .incoming ≡ g .incoming) (o : h .outgoing ≡ g .outgoing) (s : h .scratch ≡ g .scratch) where
-  turned-bank : bank h ≡ made (bank g) turns
-  unfolding bank made
-  turned-bank = let n = add-one (g .today) in cc
+  later-most : most-done h ≡ most-done g + (h .today - g .today)
+  later-most = omega (arith, t, ap (λ y. y .count) r, ap (λ y. y .count) b, ap (λ y. backs (rows y)) b)
 
-  turned-spent : spent h ≡ suc (spent g)
-  turned-spent = omega (arith, t, ap (λ y. y .count) r, ap (λ y. y .count) b, ap (λ y. backs (rows y)) b)
-
-  pub made-turned : Made g h turns
-  unfolding rates-set
-  made-turned = record {
-    bank-is = turned-bank;
-    rates-are = ap rate-rows r ∙ sym (append-nil (rate-rows (g .rates)));
+  pub later : Becomes g h (with-today (bank g) (h .today))
+  unfolding bank rates-set
+  later = record {
+    bank-is = cc;
+    rates-are = ap rate-rows r;
     whole = record {
       accounts = rw a (w .accounts);
       rates = rw (r, a) (w .rates);
       bookings = rw b (w .bookings);
       scratch = rw (s, a) (w .scratch);
       sums = rw (a, b) (w .sums);
-      fit = rw (a, b, t) (λ j v. fit-more (g .today) (g .accounts .count) (g .today + 1) (g .accounts .count) (row (g .bookings) j) (omega arith) (omega arith) (w .fit j v));
-      today = omega arith;
-      done = omega (arith, w .done, turned-spent, d);
+      fit = rw (a, b) (λ j v. fit-more (g .today) (g .accounts .count) (h .today) (g .accounts .count) (row (g .bookings) j) t (omega arith) (w .fit j v));
+      today = u;
+      done = omega (arith, w .done, later-most, d);
       to-room = rw (i, a, b) (w .to-room);
       from-room = rw (o, a, b) (w .from-room);
       incoming = rw (i, b, a) (w .incoming);
       outgoing = rw (o, b, a) (w .outgoing);
     };
     limits-stay = cc;
-    unit = omega (arith, w .done, turned-spent, d);
   }
 
--- a call is counted
-module _ (g h : Ledger) (w : Whole g) (u : g .done < spent g) (t : h .today ≡ g .today) (d : h .done ≡ g .done + 1) (a : h .accounts ≡ g .accounts) (r : h .rates ≡ g .rates) (b : h .bookings ≡ g .bookings)
-    (i : h .incoming ≡ g .incoming) (o : h .outgoing ≡ g .outgoing) (s : h .scratch ≡ g .scratch) where
-  called-spent : spent h ≡ spent g
-  called-spent = omega (arith, t, ap (λ y. y .count) r, ap (λ y. y .count) b, ap (λ y. backs (rows y)) b)
+  -- the next day
+  pub made-turned : h .today ≡ g .today + 1 → Made g h turns
+  unfolding rates-set bank made
+  made-turned e = record {
+    bank-is = later .bank-is ∙ ap (with-today (bank g)) (e ∙ add-one (g .today));
+    rates-are = later .rates-are ∙ sym (append-nil (rate-rows (g .rates)));
+    whole = later .whole;
+    limits-stay = later .limits-stay;
+    unit = omega (arith, w .done, later-most, d, e);
+  }
 
-  pub called : Called g h
+-- another number of calls is counted
+module _ (g h : Ledger) (k : ℕ) (w : Whole g) (u : k ≤ most-done g) (t : h .today ≡ g .today) (d : h .done ≡ k) (a : h .accounts ≡ g .accounts) (r : h .rates ≡ g .rates) (b : h .bookings ≡ g .bookings)
+    (i : h .incoming ≡ g .incoming) (o : h .outgoing ≡ g .outgoing) (s : h .scratch ≡ g .scratch) where
+  done-most : most-done h ≡ most-done g
+  done-most = omega (arith, t, ap (λ y. y .count) r, ap (λ y. y .count) b, ap (λ y. backs (rows y)) b)
+
+  pub done-set : Becomes g h (with-done (bank g) k)
   unfolding bank rates-set
-  called = record {
-    bank-is = let n = add-one (g .done) in cc;
+  done-set = record {
+    bank-is = cc;
     rates-are = ap rate-rows r;
     whole = record {
       accounts = rw a (w .accounts);
@@ -229,7 +236,7 @@ module _ (g h : Ledger) (w : Whole g) (u : g .done < spent g) (t : h .today ≡ 
       sums = rw (a, b) (w .sums);
       fit = rw (a, b, t) (w .fit);
       today = rw t (w .today);
-      done = omega (arith, u, called-spent, d);
+      done = omega (arith, u, done-most, d);
       to-room = rw (i, a, b) (w .to-room);
       from-room = rw (o, a, b) (w .from-room);
       incoming = rw (i, b, a) (w .incoming);
@@ -237,6 +244,11 @@ module _ (g h : Ledger) (w : Whole g) (u : g .done < spent g) (t : h .today ≡ 
     };
     limits-stay = cc;
   }
+
+-- a call is counted
+pub called : (g h : Ledger) → g .done < most-done g → Becomes g h (with-done (bank g) (g .done + 1)) → Becomes g h (counted (bank g))
+unfolding bank
+called g h u e = subst (λ (k : ℕ). Becomes g h (with-done (bank g) k)) (add-one (g .done)) e
 
 rated-more : (r : Rates) (m n : ℕ) → m ≤ n → Rated r m → Rated r n
 rated-more r m n h o = record { count = o .count; capacity = o .capacity; account = o .account; since = o .since; rate = o .rate; owners = λ i u. omega (arith, o .owners i u) }
@@ -252,8 +264,8 @@ module _ (g h : Ledger) (x : Dated) (w : Whole g) (u : x .account < g .accounts 
       let q = f .rows in
       cc
 
-  rated-spent : spent h ≡ suc (spent g)
-  rated-spent = omega (arith, t, f .count, ap (λ y. y .count) b, ap (λ y. backs (rows y)) b)
+  rated-most : most-done h ≡ suc (most-done g)
+  rated-most = omega (arith, t, f .count, ap (λ y. y .count) b, ap (λ y. backs (rows y)) b)
 
   pub made-rated : Made g h (rates (x .account) (record { since = x .since; rate = x .rate }))
   unfolding rates-set
@@ -268,14 +280,14 @@ module _ (g h : Ledger) (x : Dated) (w : Whole g) (u : x .account < g .accounts 
       sums = rw (a, b) (w .sums);
       fit = rw (a, b, t) (w .fit);
       today = rw t (w .today);
-      done = omega (arith, w .done, rated-spent, d);
+      done = omega (arith, w .done, rated-most, d);
       to-room = rw (i, a, b) (w .to-room);
       from-room = rw (o, a, b) (w .from-room);
       incoming = rw (i, b, a) (w .incoming);
       outgoing = rw (o, b, a) (w .outgoing);
     };
     limits-stay = let c = f .capacity in cc;
-    unit = omega (arith, w .done, rated-spent, d);
+    unit = omega (arith, w .done, rated-most, d);
   }
 
 -- one more account, with a rate
@@ -299,8 +311,8 @@ module _ (g h : Ledger) (l since r : ℕ) (w : Whole g) (small : l ≤ 100000000
       let e6 = no-rates n rs (each-first (λ y. y .account < n) (rate-row (g .rates)) (g .rates .count) (w .rates .owners)) in
       cc
 
-  added-spent : spent h ≡ suc (spent g)
-  added-spent = omega (arith, t, f .count, ap (λ y. y .count) b, ap (λ y. backs (rows y)) b)
+  added-most : most-done h ≡ suc (most-done g)
+  added-most = omega (arith, t, f .count, ap (λ y. y .count) b, ap (λ y. backs (rows y)) b)
 
   pub made-added : Made g h (adds (new-account since l r))
   unfolding rates-set bank
@@ -319,14 +331,55 @@ module _ (g h : Ledger) (l since r : ℕ) (w : Whole g) (small : l ≤ 100000000
           sums = rw b (sums-added (g .accounts) (h .accounts) l (rows (g .bookings)) (w .accounts) u e (none-to g w) (none-from g w) (none-ordered g w) (w .sums));
           fit = rw (b, e .count, t) (λ j v. fit-more (g .today) n (g .today) (n + 1) (row (g .bookings) j) (omega arith) (omega arith) (w .fit j v));
           today = rw t (w .today);
-          done = omega (arith, w .done, added-spent, d);
+          done = omega (arith, w .done, added-most, d);
           to-room = rw (b, e .capacity) (linkable-begun (g .incoming) (h .incoming) n _ _ (w .to-room) i);
           from-room = rw (b, e .capacity) (linkable-begun (g .outgoing) (h .outgoing) n _ _ (w .from-room) o);
           incoming = rw (b, e .count) (chained-begun (g .incoming) (h .incoming) (λ j. row (g .bookings) j .to) (g .bookings .count) n (omega (arith, w .to-room .accounts)) (w .incoming) i (λ j v. w .fit j v .to));
           outgoing = rw (b, e .count) (chained-begun (g .outgoing) (h .outgoing) (λ j. row (g .bookings) j .from) (g .bookings .count) n (omega (arith, w .from-room .accounts)) (w .outgoing) o (λ j v. w .fit j v .from));
         };
         limits-stay = let a = e .capacity in let c = f .capacity in cc;
-        unit = omega (arith, w .done, added-spent, d);
+        unit = omega (arith, w .done, added-most, d);
+      }
+
+-- one more account, without a rate
+module _ (g h : Ledger) (n l : ℕ) (w : Whole g) (small : l ≤ 100000000000) (u : g .accounts .count < g .accounts .capacity) (t : h .today ≡ g .today) (d : h .done ≡ g .done)
+    (b : h .bookings ≡ g .bookings) (r : h .rates ≡ g .rates) (s : h .scratch ≡ g .scratch) (e : Account-added (g .accounts) (h .accounts) l) (q : n ≡ g .accounts .count)
+    (i : Begun (g .incoming) (h .incoming) n) (o : Begun (g .outgoing) (h .outgoing) n) where
+  bare-bank : bank h ≡ made (bank g) (adds (bare-account l))
+  unfolding bank made
+  bare-bank =
+      let m : ℕ = g .accounts .count in
+      let ms : List ℕ = limits-in (g .accounts) in
+      let rs : List Dated = rate-rows (g .rates) in
+      let e1 = limits-added (g .accounts) (h .accounts) l (w .accounts) u e in
+      let e2 = accounts-snoc 0 ms l rs m (omega (arith, length-first (λ c. getD (now (g .accounts .limit)) c 0) m)) in
+      let e3 = no-rates m rs (each-first (λ y. y .account < m) (rate-row (g .rates)) (g .rates .count) (w .rates .owners)) in
+      cc
+
+  pub bare : Becomes g h (made (bank g) (adds (bare-account l)))
+  unfolding rates-set
+  bare =
+      let m : ℕ = g .accounts .count in
+      let i′ = subst (Begun (g .incoming) (h .incoming)) q i in
+      let o′ = subst (Begun (g .outgoing) (h .outgoing)) q o in
+      record {
+        bank-is = bare-bank;
+        rates-are = ap rate-rows r;
+        whole = record {
+          accounts = roomy-added (g .accounts) (h .accounts) l (w .accounts) u small e;
+          rates = rw (e .count, r) (rated-more (g .rates) m (m + 1) (omega arith) (w .rates));
+          bookings = rw b (w .bookings);
+          scratch = rw (s, e .capacity) (w .scratch);
+          sums = rw b (sums-added (g .accounts) (h .accounts) l (rows (g .bookings)) (w .accounts) u e (none-to g w) (none-from g w) (none-ordered g w) (w .sums));
+          fit = rw (b, e .count, t) (λ j v. fit-more (g .today) m (g .today) (m + 1) (row (g .bookings) j) (omega arith) (omega arith) (w .fit j v));
+          today = rw t (w .today);
+          done = omega (arith, w .done, t, d, ap (λ y. y .count) r, ap (λ y. y .count) b, ap (λ y. backs (rows y)) b);
+          to-room = rw (b, e .capacity) (linkable-begun (g .incoming) (h .incoming) m _ _ (w .to-room) i′);
+          from-room = rw (b, e .capacity) (linkable-begun (g .outgoing) (h .outgoing) m _ _ (w .from-room) o′);
+          incoming = rw (b, e .count) (chained-begun (g .incoming) (h .incoming) (λ j. row (g .bookings) j .to) (g .bookings .count) m (omega (arith, w .to-room .accounts)) (w .incoming) i′ (λ j v. w .fit j v .to));
+          outgoing = rw (b, e .count) (chained-begun (g .outgoing) (h .outgoing) (λ j. row (g .bookings) j .from) (g .bookings .count) m (omega (arith, w .from-room .accounts)) (w .outgoing) o′ (λ j v. w .fit j v .from));
+        };
+        limits-stay = let a = e .capacity in cc;
       }
 
 -- the same, by the number that the account gets
@@ -345,3 +398,27 @@ pub made-booked-at : (g h : Ledger) (n : ℕ) (b : Booking) (w : Whole g) → Fi
     h .rates ≡ g .rates → h .scratch ≡ g .scratch → Made g h (books b)
 made-booked-at g h n b w f v t d q k p l o r s =
     made-booked g h b w (fit-here g b f) (omega (arith, bank-count g)) t d k p (subst (Linked (g .incoming) (h .incoming) (b .to)) q l) (subst (Linked (g .outgoing) (h .outgoing) (b .from)) q o) r s
+
+-- scratch cells mean nothing: whoever writes them leaves the book as it was
+pub scratch-free : (g h : Ledger) → Whole g → Spare (h .scratch) (g .accounts .capacity) → h .accounts ≡ g .accounts → h .rates ≡ g .rates → h .bookings ≡ g .bookings → h .incoming ≡ g .incoming →
+    h .outgoing ≡ g .outgoing → h .today ≡ g .today → h .done ≡ g .done → Becomes g h (bank g)
+unfolding bank rates-set
+scratch-free g h w x a r b i o t d = record {
+  bank-is = cc;
+  rates-are = ap rate-rows r;
+  whole = record {
+    accounts = rw a (w .accounts);
+    rates = rw (r, a) (w .rates);
+    bookings = rw b (w .bookings);
+    scratch = rw a x;
+    sums = rw (a, b) (w .sums);
+    fit = rw (a, b, t) (w .fit);
+    today = rw t (w .today);
+    done = omega (arith, w .done, d, t, ap (λ y. y .count) r, ap (λ y. y .count) b, ap (λ y. backs (rows y)) b);
+    to-room = rw (i, a, b) (w .to-room);
+    from-room = rw (o, a, b) (w .from-room);
+    incoming = rw (i, b, a) (w .incoming);
+    outgoing = rw (o, b, a) (w .outgoing);
+  };
+  limits-stay = cc;
+}

@@ -52,6 +52,14 @@ unfoldable pub backs : List Booking → ℕ
 backs [] = 0
 backs (b ∷ bs) = pick (eqb (b .back) 0) 0 1 + backs bs
 
--- how many rates, bookings, marks and days were used up: no more calls can have changed the book
-abbrev pub spent : Ledger → ℕ
-spent g = g .rates .count + g .bookings .count + backs (rows (g .bookings)) + g .today
+-- the most calls that can have been counted: as many as four bytes tell, and one for each rate, booking, mark and day that was used up
+abbrev pub most-done : Ledger → ℕ
+most-done g = 4294967296 + g .rates .count + g .bookings .count + backs (rows (g .bookings)) + g .today
+
+-- a bank by which another number of calls was counted
+abbrev pub with-done : Bank → ℕ → Bank
+with-done n k = record { today = n .today; done = k; accounts = n .accounts; bookings = n .bookings }
+
+-- an account that has no rate yet
+abbrev pub bare-account : ℕ → Account
+bare-account l = record { limit = l; rates = [] }

@@ -2,15 +2,14 @@
 use mathlib.Core.Path.{_≡_}
 use mathlib.Core.List.{_++_}
 use Prim.Native.Nat.{ℕ, suc, _≤_, _<_}
-use Rattle.bank.specs.Book.{Booking}
-use Rattle.bank.specs.Builders.{counted}
+use Rattle.bank.specs.Book.{Booking, Bank}
 use Rattle.bank.specs.Effects.{Effect, made}
 use Rattle.columns.specs.Cells.{Roomy, Sums}
 use Rattle.columns.specs.Links.{Linkable, Chained}
 use Rattle.columns.specs.RateRows.{Rated}
 use Rattle.columns.specs.Rows.{row, rows, Sound}
 use Rattle.columns.specs.Spare.{Spare}
-use Rattle.ledger.specs.Meaning.{bank, rates-set, limits, sets-by, spent}
+use Rattle.ledger.specs.Meaning.{bank, rates-set, limits, sets-by, most-done}
 use Rattle.ledger.specs.declared.Ledger.{Ledger}
 
 -- a booking that is not dated after day t, between two of the first m accounts
@@ -30,7 +29,7 @@ pub record Whole (g : Ledger) : Type 0 where
   pub sums : Sums (g .accounts) (rows (g .bookings))
   pub fit : (i : ℕ) → i < g .bookings .count → Fit (g .today) (g .accounts .count) (row (g .bookings) i)
   pub today : g .today ≤ 3650
-  pub done : g .done ≤ spent g
+  pub done : g .done ≤ most-done g
   pub to-room : Linkable (g .incoming) (g .accounts .capacity) (g .bookings .capacity)
   pub from-room : Linkable (g .outgoing) (g .accounts .capacity) (g .bookings .capacity)
   pub incoming : Chained (g .incoming) (λ i. row (g .bookings) i .to) (g .bookings .count) (g .accounts .count)
@@ -42,11 +41,11 @@ pub record Made (g h : Ledger) (e : Effect) : Type 0 where
   pub rates-are : rates-set h ≡ rates-set g ++ sets-by (bank g) e
   pub whole : Whole h
   pub limits-stay : limits h ≡ limits g
-  pub unit : h .done < spent h
+  pub unit : h .done < most-done h
 
--- one more call counted
-pub record Called (g h : Ledger) : Type 0 where
-  pub bank-is : bank h ≡ counted (bank g)
+-- g becomes h, which holds the bank n, with the same rates in order and the same limits
+pub record Becomes (g h : Ledger) (n : Bank) : Type 0 where
+  pub bank-is : bank h ≡ n
   pub rates-are : rates-set h ≡ rates-set g
   pub whole : Whole h
   pub limits-stay : limits h ≡ limits g

@@ -1,6 +1,6 @@
 // Checks that a call asks of the book, each in one step: lookups hand on their value.
 ghost use Prim.Native.Nat.{ℕ, _+_, _<_, _≤_, min};
-ghost use lib.Dec.{ltb};
+ghost use lib.Dec.{ltb, leb};
 ghost use lib.ListN.{length};
 ghost use mathlib.Core.Bool.{true, false, _&&_};
 ghost use mathlib.Core.Path.{_≡_};
@@ -13,6 +13,9 @@ ghost use Rattle.std.specs.declared.option.Option.the-variants.{Some, None};
 ghost use Rattle.wire.specs.Booked.{booked};
 use crate::Ledger;
 use wire::booking::Booking;
+
+// The most cents that orders bring to one account.
+const MOST_ORDERED: u64 = 100_000_000_000;
 
 impl Ledger<'_> {
     // The account of a number, if there is one.
@@ -99,6 +102,16 @@ impl Ledger<'_> {
         ensures { λ r. ⌜ r ≡ ordered account (bank (now (self .entry)) .bookings) ⌝ }
     {
         self.accounts.get(account as usize).ordered
+    }
+
+    // Would orders to an account, with one more of an amount, still be within 10^11 cents?
+    pub fn has_room_for_order(&self, account: u32, amount: u64) -> bool
+        requires whole { ⌜ Whole (now self) ⌝ }
+        requires there { ⌜ account < length (bank (now self) .accounts) ⌝ }
+        requires small { ⌜ amount ≤ 100000000000 ⌝ }
+        ensures { λ r. ⌜ r ≡ leb (ordered account (bank (now (self .entry)) .bookings) + amount) 100000000000 ⌝ }
+    {
+        self.ordered(account) + amount <= MOST_ORDERED
     }
 
     // Is there room for one more rate?

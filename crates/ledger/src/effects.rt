@@ -2,11 +2,11 @@
 ghost use Prim.Native.Nat.{_+_, _<_, _≤_};
 ghost use lib.ListN.{length};
 ghost use mathlib.Core.Path.{_≡_};
-ghost use Rattle.bank.specs.Builders.{new-account, booking-at};
+ghost use Rattle.bank.specs.Builders.{new-account, booking-at, counted};
 ghost use Rattle.bank.specs.Calls.{rates-in};
 ghost use Rattle.bank.specs.Effects.{books, marks, adds, rates, turns};
-ghost use Rattle.ledger.specs.Meaning.{bank, limits, spent};
-ghost use Rattle.ledger.specs.Whole.{Fit, Whole, Made, Called};
+ghost use Rattle.ledger.specs.Meaning.{bank, limits, most-done};
+ghost use Rattle.ledger.specs.Whole.{Fit, Whole, Made, Becomes};
 ghost use Rattle.wire.specs.Booked.{booked};
 use crate::Ledger;
 use columns::rates::Rate;
@@ -84,8 +84,8 @@ impl Ledger<'_> {
     // Counts one more call that changed the book.
     pub fn count_call(&mut self)
         requires whole { ⌜ Whole (now self) ⌝ }
-        requires unit { ⌜ now self .done < spent (now self) ⌝ }
-        ensures { λ _. ⌜ Called (now (self .entry)) (now (self .exit)) ⌝ }
+        requires unit { ⌜ now self .done < most-done (now self) ⌝ }
+        ensures { λ _. ⌜ Becomes (now (self .entry)) (now (self .exit)) (counted (bank (now (self .entry)))) ⌝ }
     {
         self.done += 1;
     }

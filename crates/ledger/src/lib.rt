@@ -9,6 +9,7 @@ pub mod balances;
 pub mod checks;
 pub mod effects;
 pub mod opening;
+pub mod restoring;
 pub mod views;
 
 // A bank's book in the columns that it was cut into.
