@@ -1,0 +1,35 @@
+use mathlib.Core.Path.{ap, sym, _∙_}
+use native.Mathlib.Omega.{arith}
+use Rattle.columns.specs.Links.{link-of}
+use Rattle.wire.specs.Booked.{booked}
+use Rattle.ledger.proofs.Walk.{way-out, left-is, walk-head, walk-start, walk-step, walk-less, walk-small, walk-end}
+use Rattle.ledger.proofs.Ledger.left.Needs as need
+
+pub newest-next-requires : need.newest-next-requires
+newest-next-requires c κs = walk-head (way-out (c .args .self .now) (c .args .known-day) (c .args .account) (c .args .value-day) (c .pre .whole) (c .pre .there))
+
+pub loop-next-holds : need.loop-next-holds
+loop-next-holds c = walk-start (way-out (c .args .self .now) (c .args .known-day) (c .args .account) (c .args .value-day) (c .pre .whole) (c .pre .there)) _ (c .newest-next .ensures)
+
+pub add-sum : need.add-sum
+add-sum c =
+    omega (
+      arith,
+      walk-small (way-out (c .args .self .now) (c .args .known-day) (c .args .account) (c .args .value-day) (c .pre .whole) (c .pre .there)) (link-of (c .loop-next .next)) (c .in-Some .i) (c .loop-next .sum)
+          (ap link-of (c .in-Some .is)) (c .loop-next .inv) (c .takes-from-sum .result) (booked (c .get .result)) (c .get .ensures) (c .takes-from-sum .ensures),
+    )
+
+pub loop-next-less : need.loop-next-less
+loop-next-less c =
+    walk-less (way-out (c .args .self .now) (c .args .known-day) (c .args .account) (c .args .value-day) (c .pre .whole) (c .pre .there)) (link-of (c .loop-next .next)) (c .in-Some .i) (c .loop-next .sum)
+    (ap link-of (c .in-Some .is)) (c .loop-next .inv) (link-of (c .before-next .result)) (c .before-next .ensures)
+
+pub loop-next-again : need.loop-next-again
+loop-next-again c =
+    walk-step (way-out (c .args .self .now) (c .args .known-day) (c .args .account) (c .args .value-day) (c .pre .whole) (c .pre .there)) (link-of (c .loop-next .next)) (c .in-Some .i) (c .loop-next .sum)
+    (ap link-of (c .in-Some .is)) (c .loop-next .inv) (c .takes-from-sum .result) (booked (c .get .result)) (link-of (c .before-next .result)) (c .get .ensures) (c .takes-from-sum .ensures) (c .before-next .ensures)
+
+pub returns : need.returns
+returns c =
+    walk-end (way-out (c .args .self .now) (c .args .known-day) (c .args .account) (c .args .value-day) (c .pre .whole) (c .pre .there)) (link-of (c .loop-next .next)) (c .loop-next .sum) (ap link-of (c .in-rest .is)) (c .loop-next .inv)
+    ∙ sym (left-is (c .args .self .now) (c .args .known-day) (c .args .account) (c .args .value-day) (c .pre .whole) (c .pre .there))
