@@ -1,1 +1,5 @@
 pub mod Booked
+pub mod Bytes
+pub mod Meaning
+pub mod Format
+pub mod JournalRow

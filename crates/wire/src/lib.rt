@@ -1,2 +1,5 @@
-// Calls, answers and bookings as values and as bytes.
+// Calls, answers, bookings and journal rows, as values and as bytes.
 pub mod booking;
+pub mod bytes;
+pub mod call;
+pub mod row;
