@@ -1,0 +1,5 @@
+pub mod First
+pub mod Cell
+pub mod Put
+pub mod Chain
+pub mod Running

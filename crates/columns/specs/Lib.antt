@@ -1,0 +1,8 @@
+pub mod Firsts
+pub mod Sizes
+pub mod Parts
+pub mod Rows
+pub mod Cells
+pub mod RateRows
+pub mod Links
+pub mod Spare
