@@ -1,0 +1,102 @@
+// The header of a journal block, its first 32 bytes; numbers low byte first. Then come 24 rows of 20 bytes.
+//
+// | at | bytes | what |
+// |---|---|---|
+// | 0 | 2 | format, never 0 |
+// | 2 | 2 | rows in the block |
+// | 4 | 2 | options, 0 |
+// | 6 | 2 | limit of accounts |
+// | 8 | 4 | epoch: the number of the checkpoint, 0 at first |
+// | 12 | 4 | limit of bookings |
+// | 16 | 2 | limit of rates |
+// | 18 | 14 | zeros |
+ghost use mathlib.Core.Path.{_≡_};
+ghost use mathlib.Core.List.{[]};
+ghost use Prim.Native.Nat.{_+_, _≤_};
+ghost use lib.ListN.{length, drop};
+ghost use Rattle.device.specs.Rows.{bytes-of, number-of, with-bytes};
+ghost use Rattle.model.specs.JournalBlock.{head-in, journal-block};
+ghost use Rattle.columns.specs.Sizes.{limits-of};
+ghost use Rattle.journal.specs.Headers.{head-of};
+use columns::limits::Limits;
+use wire::bytes::number_at;
+use wire::bytes::put_number;
+
+const FORMAT: usize = 0;
+
+const ROWS: usize = 2;
+
+const OPTIONS: usize = 4;
+
+const ACCOUNTS: usize = 6;
+
+const EPOCH: usize = 8;
+
+const BOOKINGS: usize = 12;
+
+const RATES: usize = 16;
+
+// What a header says.
+#[derive(Clone, Copy)]
+pub struct Header {
+    pub format: u16,
+    pub rows: u16,
+    pub options: u16,
+    pub accounts: u16,
+    pub epoch: u32,
+    pub bookings: u32,
+    pub rates: u16,
+}
+
+// The number in two bytes.
+fn u16_at(block: &[u8], at: usize) -> u16
+    requires { ⌜ at + 2 ≤ length (now block) ⌝ }
+    ensures { λ r. ⌜ r ≡ number-of 2 (drop at (now (block .entry))) ⌝ }
+{
+    number_at(block, at, 2) as u16
+}
+
+// The number in four bytes.
+fn u32_at(block: &[u8], at: usize) -> u32
+    requires { ⌜ at + 4 ≤ length (now block) ⌝ }
+    ensures { λ r. ⌜ r ≡ number-of 4 (drop at (now (block .entry))) ⌝ }
+{
+    number_at(block, at, 4) as u32
+}
+
+// Reads the header of a block.
+pub fn read_header(block: &[u8]) -> Header
+    requires { ⌜ 32 ≤ length (now block) ⌝ }
+    ensures { λ r. ⌜ head-of r ≡ head-in (now (block .entry)) ⌝ }
+{
+    Header {
+        format: u16_at(block, FORMAT),
+        rows: u16_at(block, ROWS),
+        options: u16_at(block, OPTIONS),
+        accounts: u16_at(block, ACCOUNTS),
+        epoch: u32_at(block, EPOCH),
+        bookings: u32_at(block, BOOKINGS),
+        rates: u16_at(block, RATES),
+    }
+}
+
+// Makes a block of zeros one of a journal with no rows yet.
+pub(crate) fn write_header(block: &mut [u8], format: u16, limits: Limits, epoch: u32)
+    requires { ⌜ length (now block) ≡ 512 ⌝ }
+    ensures { λ _. ⌜ now (block .exit) ≡ journal-block format (limits-of limits) epoch [] ⌝ }
+{
+    block.fill(0);
+    put_number(block, FORMAT, 2, format as u64);
+    put_number(block, ACCOUNTS, 2, limits.accounts as u64);
+    put_number(block, EPOCH, 4, epoch as u64);
+    put_number(block, BOOKINGS, 4, limits.bookings as u64);
+    put_number(block, RATES, 2, limits.rates as u64);
+}
+
+// Puts the number of rows into the header.
+pub(crate) fn write_rows(block: &mut [u8], rows: u64)
+    requires { ⌜ 32 ≤ length (now block) ⌝ }
+    ensures { λ _. ⌜ now (block .exit) ≡ with-bytes (now (block .entry)) 2 (bytes-of 2 rows) ⌝ }
+{
+    put_number(block, ROWS, 2, rows);
+}

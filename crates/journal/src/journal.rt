@@ -1,0 +1,112 @@
+// The end of the journal: how many calls it has, and the block that is written next.
+ghost use mathlib.Core.Path.{_≡_};
+ghost use mathlib.Core.Bool.{true};
+ghost use mathlib.Core.List.{List, [], _∷_, _++_};
+ghost use Prim.Native.Nat.{_+_, _-_, _*_, _/_, _<_};
+ghost use lib.ListN.{length};
+ghost use Rattle.bank.specs.Calls.{Call as Told};
+ghost use Rattle.bank.specs.Promise.{allowed};
+ghost use Rattle.model.specs.JournalBlock.{stored};
+ghost use Rattle.columns.specs.Sizes.{limits-of};
+ghost use Rattle.wire.specs.Meaning.{meant};
+ghost use Rattle.journal.specs.Tail.{bounds, tail, block-with, Sound, Roomy, Appended, Stands};
+use columns::limits::Limits;
+use crate::header::write_header;
+use crate::header::write_rows;
+use wire::call::Call;
+use wire::row::write_row;
+
+// Rows in a block.
+pub const ROWS: u64 = 24;
+
+// The journal of a book, whose block is lent.
+#[derive(Drop)]
+pub struct Journal<'a> {
+    block: &'a mut [u8],
+    format: u16,
+    limits: Limits,
+    epoch: u32,
+    blocks: u32,
+    read: u32,
+    count: u64,
+}
+
+impl<'a> Journal<'a> {
+    // A journal that has so many blocks, of which none was read yet.
+    pub fn new(
+        block: &'a mut [u8],
+        format: u16,
+        limits: Limits,
+        epoch: u32,
+        blocks: u32,
+    ) -> Journal<'a>
+        requires whole { ⌜ length (now block) ≡ 512 ⌝ }
+        requires named { ⌜ 0 < format ⌝ }
+        requires lawful { ⌜ allowed (limits-of limits) ≡ true ⌝ }
+        ensures sound { λ r. ⌜ Sound r ⌝ }
+        ensures stands { λ r. ⌜ Stands r [] ⌝ }
+        ensures book { λ r. ⌜ (r .format ≡ format) × (r .limits ≡ limits) × (r .epoch ≡ epoch) ⌝ }
+        ensures blocks { λ r. ⌜ (r .blocks ≡ blocks) × (r .read ≡ 0) ⌝ }
+    {
+        Journal {
+            block,
+            format,
+            limits,
+            epoch,
+            blocks,
+            read: 0,
+            count: 0,
+        }
+    }
+}
+
+impl Journal<'_> {
+    // Begins a new block where the last is full.
+    fn make_room(&mut self)
+        requires { ⌜ Sound (now self) ⌝ }
+        ensures { λ _. ⌜ Roomy (now (self .entry)) (now (self .exit)) ⌝ }
+    {
+        if self.count % ROWS != 0 {
+            return;
+        }
+        let format = self.format;
+        let limits = self.limits;
+        let epoch = self.epoch;
+        write_header(self.block, format, limits, epoch);
+    }
+
+    // Adds a call, and says which block is to be written.
+    pub fn append(&mut self, call: Call) -> u64
+        requires sound { ⌜ Sound (now self) ⌝ }
+        requires room { ⌜ now self .count < 24 * now self .blocks ⌝ }
+        requires kept { ⌜ stored (meant call) ≡ true ⌝ }
+        ensures appended { λ _. ⌜ Appended (now (self .entry)) (now (self .exit)) (meant call) ⌝ }
+        ensures stands { λ _. ⌜ ((s : List Told) → Stands (now (self .entry)) s → Stands (now (self .exit)) (s ++ (meant call ∷ []))) ⌝ }
+        ensures block { λ r. ⌜ (r ≡ now (self .entry) .count / 24) × (r < now (self .entry) .blocks) ⌝ }
+    {
+        self.make_room();
+        let n = self.count % ROWS;
+        let k = self.count / ROWS;
+        write_rows(self.block, n + 1);
+        write_row(self.block, 32 + 20 * n as usize, call);
+        self.count += 1;
+        k
+    }
+
+    // The bytes of the block that is written next.
+    pub fn block(&self) -> &[u8]
+        ensures { λ r. ⌜ now r ≡ now (now (self .entry) .block) ⌝ }
+    {
+        self.block
+    }
+
+    // The block that the last call stands in.
+    pub fn last_block(&self) -> u64
+        ensures { λ r. ⌜ r ≡ (now (self .entry) .count - 1) / 24 ⌝ }
+    {
+        if self.count == 0 {
+            return 0;
+        }
+        (self.count - 1) / ROWS
+    }
+}
