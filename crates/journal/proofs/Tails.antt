@@ -125,3 +125,9 @@ stands-more j k c s a h =
       count = a .count ∙ omega (arith, h .count, e);
       tail = a .tail ∙ ap (λ (t : List Call). pick (eqb (suc (length t)) 24) [] (t ++ (c ∷ []))) (h .tail) ∙ last-tail 24 (omega arith) s c;
     }
+
+-- how many blocks were read is no matter of the block
+pub read-sound : (j : Journal) (n : ℕ) → Sound j → Sound (record { block = j .block; format = j .format; limits = j .limits; epoch = j .epoch; blocks = j .blocks; read = n; count = j .count })
+unfolding tail
+read-sound j n s =
+    record { lawful = s .lawful; named = s .named; narrow = s .narrow; early = s .early; short = s .short; whole = s .whole; bytes = s .bytes; long = s .long; rows = s .rows }

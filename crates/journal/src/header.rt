@@ -15,9 +15,11 @@ ghost use mathlib.Core.List.{[]};
 ghost use Prim.Native.Nat.{_+_, _≤_};
 ghost use lib.ListN.{length, drop};
 ghost use Rattle.device.specs.Rows.{bytes-of, number-of, with-bytes};
-ghost use Rattle.model.specs.JournalBlock.{head-in, journal-block};
+ghost use Rattle.model.specs.JournalBlock.{head-in, same-book, journal-block};
 ghost use Rattle.columns.specs.Sizes.{limits-of};
 ghost use Rattle.journal.specs.Headers.{head-of};
+ghost use Rattle.journal.specs.Recovery.{Says};
+use blocks::BLOCK;
 use columns::limits::Limits;
 use wire::bytes::number_at;
 use wire::bytes::put_number;
@@ -78,6 +80,36 @@ pub fn read_header(block: &[u8]) -> Header
         bookings: u32_at(block, BOOKINGS),
         rates: u16_at(block, RATES),
     }
+}
+
+impl Header {
+    // Is it of this format, and of a book with these limits?
+    pub fn is_of(self, format: u16, limits: Limits) -> bool
+        ensures { λ r. ⌜ r ≡ same-book format (limits-of limits) (head-of self) ⌝ }
+    {
+        self.format == format
+            && self.accounts as u32 == limits.accounts
+            && self.rates as u32 == limits.rates
+            && self.bookings == limits.bookings
+    }
+}
+
+// The limits of the book that a block of this format is of.
+pub fn limits_in(block: &[u8], format: u16) -> Option<Limits>
+    ensures { λ r. ⌜ Says (now (block .entry)) format r ⌝ }
+{
+    if block.len() != BLOCK {
+        return None;
+    }
+    let header = read_header(block);
+    if header.format != format {
+        return None;
+    }
+    Some(Limits {
+        accounts: header.accounts as u32,
+        rates: header.rates as u32,
+        bookings: header.bookings,
+    })
 }
 
 // Makes a block of zeros one of a journal with no rows yet.

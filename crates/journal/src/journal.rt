@@ -3,17 +3,24 @@ ghost use mathlib.Core.Path.{_≡_};
 ghost use mathlib.Core.Bool.{true};
 ghost use mathlib.Core.List.{List, [], _∷_, _++_};
 ghost use Prim.Native.Nat.{_+_, _-_, _*_, _/_, _<_};
+ghost use lib.Dec.{ltb};
 ghost use lib.ListN.{length};
+ghost use Rattle.std.specs.declared.option.Option.the-variants.{Some, None};
+ghost use Rattle.device.specs.Device.{pick};
 ghost use Rattle.bank.specs.Calls.{Call as Told};
 ghost use Rattle.bank.specs.Promise.{allowed};
 ghost use Rattle.model.specs.JournalBlock.{stored};
 ghost use Rattle.columns.specs.Sizes.{limits-of};
 ghost use Rattle.wire.specs.Meaning.{meant};
 ghost use Rattle.journal.specs.Tail.{bounds, tail, block-with, Sound, Roomy, Appended, Stands};
+ghost use Rattle.journal.specs.Recovery.{accepts-next, next-rows, Took, Row-of};
+use blocks::BLOCK;
 use columns::limits::Limits;
+use crate::header::read_header;
 use crate::header::write_header;
 use crate::header::write_rows;
 use wire::call::Call;
+use wire::row::read_row;
 use wire::row::write_row;
 
 // Rows in a block.
@@ -109,4 +116,72 @@ impl Journal<'_> {
         }
         (self.count - 1) / ROWS
     }
+
+    // The block that recovery reads next; none where it has read all.
+    pub fn next_block(&self) -> Option<u64>
+        ensures { λ r. ⌜ r ≡ pick (ltb (now (self .entry) .read) (now (self .entry) .blocks)) (Some (now (self .entry) .read)) None ⌝ }
+    {
+        if self.read < self.blocks {
+            return Some(self.read as u64);
+        }
+        None
+    }
+
+    // How many rows the block that is read next has for this journal; none where it cannot be a block of it.
+    fn rows_in(&self, bytes: &[u8]) -> Option<usize>
+        requires { ⌜ Sound (now self) ⌝ }
+        ensures { λ r. ⌜ r ≡ pick (accepts-next (now (self .entry)) (now (bytes .entry))) (Some (next-rows (now (self .entry)) (now (bytes .entry)))) None ⌝ }
+    {
+        if self.read >= self.blocks {
+            return None;
+        }
+        if bytes.len() != BLOCK {
+            return None;
+        }
+        let header = read_header(bytes);
+        if header.format == 0 {
+            return Some(0);
+        }
+        if !header.is_of(self.format, self.limits) {
+            return None;
+        }
+        if header.rows == 0 {
+            return Some(0);
+        }
+        if header.epoch < self.epoch {
+            return Some(0);
+        }
+        if header.epoch > self.epoch {
+            return None;
+        }
+        if header.rows as u64 > ROWS {
+            return None;
+        }
+        if self.count != ROWS * self.read as u64 {
+            return None;
+        }
+        Some(header.rows as usize)
+    }
+
+    // Takes the block that was asked for, and says how many rows it has; none where it cannot be a block of this journal.
+    pub fn take_block(&mut self, bytes: &[u8]) -> Option<usize>
+        requires { ⌜ Sound (now self) ⌝ }
+        ensures took { λ r. ⌜ Took (now (self .entry)) (now (self .exit)) (now (bytes .entry)) r ⌝ }
+        ensures sound { λ _. ⌜ Sound (now (self .exit)) ⌝ }
+    {
+        let Some(rows) = self.rows_in(bytes) else {
+            return None;
+        };
+        self.read += 1;
+        Some(rows)
+    }
+}
+
+// The call of row i of a block; none where there is no such kind of row.
+pub fn row_at(block: &[u8], i: usize) -> Option<Call>
+    requires whole { ⌜ length (now block) ≡ 512 ⌝ }
+    requires there { ⌜ i < 24 ⌝ }
+    ensures { λ r. ⌜ Row-of (now (block .entry)) i r ⌝ }
+{
+    read_row(block, 32 + 20 * i)
 }

@@ -20,10 +20,10 @@ use Rattle.device.specs.Rows.{top, bytes-of, row, number-of, numbers, fits-in, 
 use Rattle.device.proofs.Rows.{zeros, block-begun, block-more, row-of-length, row-of-bytes, row-of-back, block-full, block-bytes, block-back}
 use Rattle.model.proofs.Taken.{never, pick-zero, taken-fits, taken-good, taken-by, Fits, fits-parts, Allowed, allowed-parts}
 
-call-fits : (c : Call) → stored c ≡ true → fits-row call-row c ≡ true
+pub call-fits : (c : Call) → stored c ≡ true → fits-row call-row c ≡ true
 call-fits c h = and-parts (not (asks c)) (fits-row call-row c) h .1
 
-call-back : (c : Call) → stored c ≡ true → call-from (call-kind c) (call-numbers c) ≡ c
+pub call-back : (c : Call) → stored c ≡ true → call-from (call-kind c) (call-numbers c) ≡ c
 unfolding call-kind call-numbers call-from asks
 call-back (opens m r) h = refl
 call-back (rated a r) h = refl
@@ -100,11 +100,11 @@ module _ (format : ℕ) (small : format < 65536) (l : Limits) (a : allowed l ≡
   head-length : length (row-of head-row head) ≡ 32
   head-length = row-of-length head-row head head-fits
 
-  journal-block-head : head-in (journal-block format l e cs) ≡ head
+  pub journal-block-head : head-in (journal-block format l e cs) ≡ head
   unfolding journal-block block-of
   journal-block-head = row-of-back head-row head _ head-fits refl
 
-  journal-block-headed : headed format l (journal-block format l e cs) ≡ true
+  pub journal-block-headed : headed format l (journal-block format l e cs) ≡ true
   unfolding headed
   journal-block-headed = rw journal-block-head (same-self format l e (length cs))
 
