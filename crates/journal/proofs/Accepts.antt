@@ -17,6 +17,20 @@ use Rattle.bank.specs.Calls.{Limits}
 use Rattle.model.specs.JournalBlock.{same-book, head-in, headed, own}
 use Rattle.journal.specs.Recovery.{rows-of, later, accepts}
 
+-- tests of which one part decides
+pub and-no : (t : Bool) → (t && false) ≡ false
+and-no true = refl
+and-no false = refl
+
+pub or-yes : (t : Bool) → (t || true) ≡ true
+or-yes true = refl
+or-yes false = refl
+
+-- nothing either way
+pub pick-none : (t : Bool) → pick t 0 0 ≡ zero
+pick-none true = refl
+pick-none false = refl
+
 -- a test that fails
 not-less : (a b : ℕ) → b ≤ a → ltb a b ≡ false
 not-less a b h = grind (arith, tells)
@@ -52,22 +66,14 @@ module _ (f : ℕ) (l : Limits) (e blocks k count : ℕ) (bs : List ℕ) (there 
   module _ (mine : headed f l bs ≡ true) where
     owned : own f l bs ≡ true
     unfolding own
-    owned = rw mine (or-true (eqb (head-in bs .format) 0))
-      where
-        or-true : (t : Bool) → (t || true) ≡ true
-        or-true true = refl
-        or-true false = refl
+    owned = rw mine (or-yes (eqb (head-in bs .format) 0))
 
     -- one with no rows
     pub rowless : head-in bs .rows ≡ 0 → Some 0 ≡ found
     rowless q =
-        let r : rows-of f l e bs ≡ 0 = rw (mine, q) (same (eqb (head-in bs .epoch) e)) in
+        let r : rows-of f l e bs ≡ 0 = rw (mine, q) (pick-none (eqb (head-in bs .epoch) e)) in
         let z : later f l e bs ≡ false = rw (mine, q) in
         rw (here, long, owned, z, r)
-      where
-        same : (t : Bool) → pick t 0 0 ≡ zero
-        same true = refl
-        same false = refl
 
     -- one of an earlier epoch
     pub stale : head-in bs .epoch < e → Some 0 ≡ found
@@ -75,12 +81,8 @@ module _ (f : ℕ) (l : Limits) (e blocks k count : ℕ) (bs : List ℕ) (there 
         let t : eqb (head-in bs .epoch) e ≡ false = ne-eqb (head-in bs .epoch) e (λ w. omega arith) in
         let r : rows-of f l e bs ≡ 0 = rw (mine, t) in
         let u : ltb e (head-in bs .epoch) ≡ false = not-less e (head-in bs .epoch) (omega arith) in
-        let z : later f l e bs ≡ false = rw (mine, u) (no (ltb 0 (head-in bs .rows))) in
+        let z : later f l e bs ≡ false = rw (mine, u) (and-no (ltb 0 (head-in bs .rows))) in
         rw (here, long, owned, z, r)
-      where
-        no : (t : Bool) → (t && false) ≡ false
-        no true = refl
-        no false = refl
 
     -- rows of a later one
     pub future : (head-in bs .rows ≡ 0 → ⊥) → e < head-in bs .epoch → None ≡ found
@@ -97,11 +99,7 @@ module _ (f : ℕ) (l : Limits) (e blocks k count : ℕ) (bs : List ℕ) (there 
       not-later : later f l e bs ≡ false
       not-later =
           let u : ltb e (head-in bs .epoch) ≡ false = not-less e (head-in bs .epoch) (omega arith) in
-          rw (mine, u) (no (ltb 0 (head-in bs .rows)))
-        where
-          no : (t : Bool) → (t && false) ≡ false
-          no true = refl
-          no false = refl
+          rw (mine, u) (and-no (ltb 0 (head-in bs .rows)))
 
       -- too many rows
       pub many : 24 < head-in bs .rows → None ≡ found
@@ -114,22 +112,14 @@ module _ (f : ℕ) (l : Limits) (e blocks k count : ℕ) (bs : List ℕ) (there 
       gap p q =
           let t : eqb (head-in bs .rows) 0 ≡ false = ne-eqb (head-in bs .rows) 0 p in
           let u : eqb count (24 * k) ≡ false = ne-eqb count (24 * k) q in
-          rw (here, long, owned, not-later, count-is, t, u) (ap (λ s. pick s (Some (head-in bs .rows)) None) (sym (no (leb (head-in bs .rows) 24))))
-        where
-          no : (t : Bool) → (t && false) ≡ false
-          no true = refl
-          no false = refl
+          rw (here, long, owned, not-later, count-is, t, u) (ap (λ s. pick s (Some (head-in bs .rows)) None) (sym (and-no (leb (head-in bs .rows) 24))))
 
       -- rows
       pub next-found : head-in bs .rows ≤ 24 → count ≡ 24 * k → Some (head-in bs .rows) ≡ found
       next-found p q =
           let t : leb (head-in bs .rows) 24 ≡ true = le-leb (head-in bs .rows) 24 p in
           let u : eqb count (24 * k) ≡ true = eq-eqb count (24 * k) q in
-          rw (here, long, owned, not-later, count-is, t, u) (ap (λ s. pick s (Some (head-in bs .rows)) None) (sym (yes (eqb (head-in bs .rows) 0))))
-        where
-          yes : (t : Bool) → (t || true) ≡ true
-          yes true = refl
-          yes false = refl
+          rw (here, long, owned, not-later, count-is, t, u) (ap (λ s. pick s (Some (head-in bs .rows)) None) (sym (or-yes (eqb (head-in bs .rows) 0))))
 
 -- row i of some
 pub row-in : {X : Type 0} (r : Row X) (n i : ℕ) (bs : List ℕ) (d : X) → i < n → getD (rows-at r n bs) i d ≡ thing-in r (drop (r .size * i) bs)

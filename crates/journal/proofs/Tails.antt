@@ -131,3 +131,7 @@ pub read-sound : (j : Journal) (n : ℕ) → Sound j → Sound (record { block =
 unfolding tail
 read-sound j n s =
     record { lawful = s .lawful; named = s .named; narrow = s .narrow; early = s .early; short = s .short; whole = s .whole; bytes = s .bytes; long = s .long; rows = s .rows }
+
+pub read-stands : (j : Journal) (n : ℕ) (s : List Call) → Stands j s → Stands (record { block = j .block; format = j .format; limits = j .limits; epoch = j .epoch; blocks = j .blocks; read = n; count = j .count }) s
+unfolding tail
+read-stands j n s h = record { count = h .count; tail = h .tail }

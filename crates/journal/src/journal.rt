@@ -168,6 +168,7 @@ impl Journal<'_> {
         requires { ⌜ Sound (now self) ⌝ }
         ensures took { λ r. ⌜ Took (now (self .entry)) (now (self .exit)) (now (bytes .entry)) r ⌝ }
         ensures sound { λ _. ⌜ Sound (now (self .exit)) ⌝ }
+        ensures stands { λ _. ⌜ ((s : List Told) → Stands (now (self .entry)) s → Stands (now (self .exit)) s) ⌝ }
     {
         let Some(rows) = self.rows_in(bytes) else {
             return None;

@@ -5,7 +5,7 @@ use Rattle.device.specs.Device.{pick}
 use Rattle.journal.specs.Recovery.{accepts-next, next-rows}
 use Rattle.journal.specs.declared.journal.Journal.{Journal}
 use Rattle.journal.proofs.Accepts.{accepted-so}
-use Rattle.journal.proofs.Tails.{read-sound}
+use Rattle.journal.proofs.Tails.{read-sound, read-stands}
 use Rattle.journal.proofs.journal.Journal.take_block.Needs as need
 
 pub returns : need.returns
@@ -16,4 +16,5 @@ returns c =
     record {
       took = (c .in-Some .ensures tt, ap (λ x. record { block = j .block; format = j .format; limits = j .limits; epoch = j .epoch; blocks = j .blocks; read = j .read + pick x 1 0; count = j .count }) (sym t));
       sound = read-sound j (j .read + 1) (c .pre);
+      stands = λ s h. read-stands j (j .read + 1) s h;
     }
