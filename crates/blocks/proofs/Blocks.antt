@@ -1,15 +1,14 @@
 -- Laws of blocks: what a write to one leaves in it and in the others.
-use mathlib.Core.Path.{_≡_, refl, sym, ap, subst, _∙_, fun-ext}
+use mathlib.Core.Path.{_≡_, refl, sym, ap, _∙_, fun-ext}
 use mathlib.Core.Logic.{inl, inr}
-use mathlib.Core.List.{List, [], _∷_, _++_}
-use Prim.Native.Nat.{ℕ, _+_, _*_, _-_, _≤_, _<_}
+use mathlib.Core.List.{List, _++_}
+use Prim.Native.Nat.{ℕ, _+_, _*_, _≤_}
 use native.Mathlib.Omega.{arith}
 use lib.ListN.{length, take, drop, replicate}
 use Rattle.std.proofs.shelf.Tests.{cases-eq, cases-lt, eq-eqb, ne-eqb}
 use Rattle.std.proofs.shelf.Lists.{length-take, length-drop, length-append, take-append-le, drop-all}
 use lib.ListN.{length-replicate}
-use Rattle.device.specs.Device.{Device, put, pick}
-use Rattle.device.specs.Rows.{with-bytes}
+use Rattle.device.specs.Device.{put, pick}
 use Rattle.blocks.specs.Blocks.{block, put-block, device-of}
 use Rattle.blocks.proofs.Parts.{with-length, with-rest, with-same, with-before}
 

@@ -1,8 +1,7 @@
 // Blocks of 512 bytes in a row of lent bytes: a block is a part that starts in its middle.
 ghost use mathlib.Core.Path.{_≡_};
-ghost use Prim.Native.Nat.{_+_, _*_, _/_, _≤_, _<_};
+ghost use Prim.Native.Nat.{_+_, _*_, _/_, _≤_};
 ghost use lib.ListN.{length};
-ghost use Rattle.std.specs.declared.option.Option.the-variants.{Some, None};
 ghost use Rattle.blocks.specs.Blocks.{block, put-block, device-of};
 
 // Bytes in a block.

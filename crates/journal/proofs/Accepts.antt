@@ -1,21 +1,25 @@
 -- What is found of a block that is read next, by the tests in their order.
 use mathlib.Core.Path.{_≡_, refl, sym, ap, _∙_}
 use mathlib.Core.Bool.{Bool, true, false, not, _&&_, _||_}
-use mathlib.Core.List.{List, [], _∷_, _++_}
+use mathlib.Core.List.{List}
 use Prim.Native.Nat.{ℕ, zero, suc, _+_, _*_, _≤_, _<_}
 use native.Mathlib.Omega.{arith}
+use native.Mathlib.Nat.{mul-suc}
 use lib.Dec.{eqb, leb, ltb}
 use lib.ListN.{length, getD, drop}
 use Rattle.std.specs.declared.option.Option.{Option}
 use Rattle.std.specs.declared.option.Option.the-variants.{Some, None}
 use Rattle.std.proofs.shelf.Ways.{tells}
-use borrow.Author.Tests.{eq-eqb, ne-eqb, lt-ltb, le-leb}
+use borrow.Author.Tests.{eqb-true, eq-eqb, ne-eqb, lt-ltb, le-leb, ltb-true}
+use Rattle.std.proofs.shelf.Tests.{and-parts, leb-true}
+use Rattle.journal.specs.declared.journal.Journal.{Journal}
+use Rattle.journal.specs.Tail.{bounds}
 use Rattle.std.proofs.shelf.Lists.{drop-drop}
 use Rattle.device.specs.Device.{pick}
-use Rattle.device.specs.Rows.{Row, thing-in, rows-at, rows-in}
+use Rattle.device.specs.Rows.{Row, thing-in, rows-at}
 use Rattle.bank.specs.Calls.{Limits}
-use Rattle.model.specs.JournalBlock.{same-book, head-in, headed, own}
-use Rattle.journal.specs.Recovery.{rows-of, later, accepts}
+use Rattle.model.specs.JournalBlock.{head-in, headed, own}
+use Rattle.journal.specs.Recovery.{rows-of, later, accepts, accepts-next, next-rows, Fit}
 
 -- tests of which one part decides
 pub and-no : (t : Bool) → (t && false) ≡ false
@@ -130,7 +134,7 @@ row-in r (suc n) (suc i) bs d h =
     row-in r n i (drop (r .size) bs) d (omega arith) ∙ ap (thing-in r) (drop-drop (r .size * i) (r .size) bs ∙ ap (λ m. drop m bs) (next (r .size) i))
   where
     next : (s j : ℕ) → s + s * j ≡ s * suc j
-    next s j = rw (native.Mathlib.Nat.mul-suc s j) (omega arith)
+    next s j = rw (mul-suc s j) (omega arith)
 
 -- what was found says whether the block is accepted
 pub refused-so : (t : Bool) (n : ℕ) → None ≡ pick t (Some n) None → t ≡ false
@@ -140,3 +144,26 @@ refused-so false n e = refl
 pub accepted-so : (t : Bool) (m n : ℕ) → Some m ≡ pick t (Some n) None → t ≡ true
 accepted-so true m n e = refl
 accepted-so false m n e = let z : _≡_ {A = ℕ} 0 1 = cc in absurd (omega arith)
+
+told-so : (t : Bool) (m n : ℕ) → Some m ≡ pick t (Some n) None → m ≡ n
+told-so true m n e = cc
+told-so false m n e = let z : _≡_ {A = ℕ} 0 1 = cc in absurd (omega arith)
+
+-- a block that is accepted fits
+pub fit-so : (j : Journal) (bs : List ℕ) (n : ℕ) → Some n ≡ pick (accepts-next j bs) (Some (next-rows j bs)) None → Fit j bs n
+fit-so j bs n e =
+    let m : n ≡ next-rows j bs = told-so (accepts-next j bs) n (next-rows j bs) e in
+    let t = and-parts (ltb (j .read) (j .blocks)) _ (accepted-so (accepts-next j bs) n (next-rows j bs) e) in
+    let w = and-parts (eqb (length bs) 512) _ (t .1) in
+    let o = and-parts (own (j .format) (bounds j) bs) _ (w .1) in
+    let z = and-parts (not (later (j .format) (bounds j) (j .epoch) bs)) _ (o .1) in
+    let r = and-parts (leb (next-rows j bs) 24) (eqb (next-rows j bs) 0 || eqb (j .count) (24 * j .read)) (z .1) in
+    record {
+      whole = eqb-true (length bs) 512 (w .0);
+      few = omega (arith, leb-true (next-rows j bs) 24 (r .0), m);
+      there = ltb-true (j .read) (j .blocks) (t .0);
+      joins = λ h. eqb-true (j .count) (24 * j .read) (either (eqb (next-rows j bs) 0) (eqb (j .count) (24 * j .read)) (ne-eqb (next-rows j bs) 0 (λ q. omega (arith, m))) (r .1));
+    }
+  where
+    either : (x y : Bool) → x ≡ false → (x || y) ≡ true → y ≡ true
+    either x y p q = rw p at q

@@ -1,13 +1,13 @@
 -- The header as bytes.
 use mathlib.Core.Path.{_≡_, refl, sym, ap, _∙_}
-use mathlib.Core.List.{List, [], _∷_, _++_}
-use Prim.Native.Nat.{ℕ, zero, suc, _+_, _*_, _≤_, _<_}
+use mathlib.Core.List.{List, [], _∷_}
+use Prim.Native.Nat.{ℕ, zero, suc, _<_}
 use native.Mathlib.Omega.{arith}
-use lib.ListN.{length, getD, take, drop, replicate}
+use lib.ListN.{getD, drop, replicate}
 use Rattle.std.proofs.shelf.Lists.{drop-drop}
 use Rattle.bank.specs.Calls.{Limits}
 use Rattle.device.specs.Rows.{bytes-of, number-of, numbers, top, row, row-of, thing-in, with-bytes}
-use Rattle.model.specs.JournalBlock.{Head, head-row, head-for, head-in, journal-block}
+use Rattle.model.specs.JournalBlock.{head-in, journal-block}
 use Rattle.model.proofs.JournalBlock.{journal-block-begun}
 
 -- k bytes are a number below 256 ^ k

@@ -1,20 +1,19 @@
 -- Recovery of a device that reads as calls, and room in its journal.
 use mathlib.Core.Path.{_≡_, refl, sym, ap, subst, _∙_}
-use mathlib.Core.Logic.{_⊎_, inl, inr}
-use mathlib.Core.Bool.{Bool, true, false, not, _&&_, _||_}
+use mathlib.Core.Logic.{inl, inr}
+use mathlib.Core.Bool.{Bool, true, false, not, _||_}
 use mathlib.Core.List.{List, [], _∷_, _++_, append-assoc, append-nil}
-use Prim.Native.Nat.{ℕ, zero, suc, _+_, _-_, _*_, _/_, _≤_, _<_, min}
+use Prim.Native.Nat.{ℕ, zero, suc, _+_, _-_, _*_, _≤_, _<_, min}
 use native.Mathlib.Omega.{arith}
-use native.Mathlib.Nat.{mul-suc}
-use lib.Dec.{eqb, leb, ltb}
-use lib.ListN.{length, getD, take, drop, replicate, length-take, length-drop}
+use lib.Dec.{eqb, ltb}
+use lib.ListN.{length, take, drop, replicate, length-take, length-drop}
 use Rattle.std.proofs.shelf.Lists.{drop-drop}
 use Rattle.std.proofs.shelf.Tests.{and-parts, and-from, cases-eq}
-use borrow.Author.Tests.{eq-eqb, ne-eqb, lt-ltb, le-leb}
+use borrow.Author.Tests.{eq-eqb, le-leb}
 use Rattle.device.specs.Device.{pick, Device}
-use Rattle.device.specs.Book.{every, ran-by}
-use Rattle.device.specs.Rows.{number-of, bytes-of, row-of, rows, rows-at, rows-in, block-of, used-by, row, width}
-use Rattle.device.specs.Journal.{chunk, gather, gather-each, takes, noted, logged, Holds-block, Holds-journal}
+use Rattle.device.specs.Book.{every}
+use Rattle.device.specs.Rows.{number-of, bytes-of, row-of, rows, rows-at, rows-in, block-of, used-by, row}
+use Rattle.device.specs.Journal.{chunk, takes, noted, logged, Holds-block, Holds-journal}
 use Rattle.device.specs.Resident.{how-many}
 use Rattle.device.proofs.Chunks.{every-take, every-drop, gathered-each}
 use Rattle.device.proofs.Journal.{Sound, room-left, sound-log, found}
@@ -23,16 +22,14 @@ use Rattle.device.proofs.Rows.{number-back, behind, row-of-length, rows-in-leng
 use Rattle.bank.specs.Calls.{Call, opens, rated, move, take-back, day-ends, balance, statement, sums, taken-so-far, garbled, Limits}
 use Rattle.bank.specs.Promise.{asks, room, allowed}
 use Rattle.model.specs.Core.{book}
-use Rattle.model.specs.First.{first-call, changes, size, not-yet, journal-format, first-program, first-reading}
+use Rattle.model.specs.First.{first-call, changes, size, not-yet, journal-format, first-reading}
 use Rattle.model.specs.JournalBlock.{Head, head-row, head-for, head-in, headed, own, call-row, call-kind, stored, journal-block, calls-in}
 use Rattle.model.proofs.First.{first-grows, journal-reads-back}
-use Rattle.model.proofs.JournalBlock.{call-fits, journal-block-back, journal-block-head, journal-block-headed, journal-block-own}
+use Rattle.model.proofs.JournalBlock.{call-fits, journal-block-head, journal-block-headed}
 use Rattle.model.proofs.Taken.{never}
 use Rattle.wire.specs.JournalRow.{kind-at}
-use Rattle.journal.specs.Tail.{Stands}
-use Rattle.journal.specs.declared.journal.Journal.{Journal}
 use Rattle.journal.proofs.Accepts.{and-no, or-yes, pick-none}
-use Rattle.journal.specs.Recovery.{rows-of, later, accepts, Taken-after, journal-in, First-accepted, First-recovered, First-starts, First-has-room}
+use Rattle.journal.specs.Recovery.{rows-of, later, accepts, Taken-after, journal-in, First-accepted, First-starts, First-has-room}
 
 -- a call that is stored has a kind
 kind-there : (c : Call) → stored c ≡ true → (1 ≤ call-kind c) × (call-kind c ≤ 5)
@@ -228,5 +225,5 @@ unfolding takes
 first-has-room l a ts c h =
     let s : List Call = logged (book l) first-call (changes l) [] ts in
     let n = room-left (book l) first-call stored asks 24 (omega arith) (room l) (changes l) size (first-grows l a) s c
-        (sound-log (book l) first-call stored asks 24 (omega arith) (room l) (changes l) size (first-grows l a) (journal-format l) (journal-reads-back l a) not-yet ts) h in
+    (sound-log (book l) first-call stored asks 24 (omega arith) (room l) (changes l) size (first-grows l a) (journal-format l) (journal-reads-back l a) not-yet ts) h in
     omega arith

@@ -1,24 +1,25 @@
 -- The end of the journal, after one call more.
-use mathlib.Core.Path.{_≡_, refl, sym, ap, subst, _∙_}
-use mathlib.Core.Logic.{_⊎_, inl, inr}
-use mathlib.Core.Bool.{Bool, true, false, _&&_}
+use mathlib.Core.Path.{_≡_, refl, sym, ap, _∙_}
+use mathlib.Core.Logic.{inl, inr}
+use mathlib.Core.Bool.{true}
 use mathlib.Core.List.{List, [], _∷_, _++_}
-use Prim.Native.Nat.{ℕ, zero, suc, _+_, _-_, _*_, _/_, _%_, _≤_, _<_}
+use Prim.Native.Nat.{ℕ, suc, _+_, _*_, _%_, _≤_, _<_}
 use native.Mathlib.Omega.{arith}
 use lib.Dec.{eqb}
-use lib.ListN.{length, take, drop, length-append, length-take}
+use lib.ListN.{length, take, length-append}
 use denote.Ref.{now}
 use Rattle.std.proofs.shelf.Lists.{take-all}
 use Rattle.std.proofs.shelf.Tests.{cases-eq, eq-eqb, ne-eqb}
 use Rattle.device.specs.Device.{pick}
 use Rattle.device.specs.Book.{every}
-use Rattle.device.specs.Journal.{chunk}
 use Rattle.device.specs.Rows.{bytes-of, row-of, with-bytes}
 use Rattle.device.proofs.Chunks.{every-snoc}
 use Rattle.device.proofs.Resident.{last-tail}
-use Rattle.bank.specs.Calls.{Call, Limits}
-use Rattle.model.specs.JournalBlock.{call-row, stored, journal-block, calls-in}
+use Rattle.bank.specs.Calls.{Call}
+use Rattle.model.specs.JournalBlock.{call-row, stored, calls-in}
 use Rattle.model.proofs.JournalBlock.{journal-block-back, journal-block-full, journal-block-more}
+use Rattle.bank.specs.Promise.{allowed}
+use Rattle.columns.specs.Sizes.{limits-of}
 use Rattle.journal.specs.declared.journal.Journal.{Journal}
 use Rattle.journal.specs.Tail.{bounds, block-with, tail, Sound, Alike, Roomy, Appended, Stands}
 
@@ -40,11 +41,10 @@ sound-alike : (j k : Journal) → Alike j k → Sound j → (length (now (k .blo
     every stored (tail k) ≡ true → Sound k
 sound-alike j k h s w b l r =
     record {
-      lawful = ap (λ x. Rattle.bank.specs.Promise.allowed (Rattle.columns.specs.Sizes.limits-of x)) (h .limits) ∙ s .lawful;
+      lawful = ap (λ x. allowed (limits-of x)) (h .limits) ∙ s .lawful;
       named = omega (arith, h .format, s .named);
       narrow = omega (arith, h .format, s .narrow);
       early = omega (arith, h .epoch, s .early);
-      short = omega (arith, h .blocks, s .short);
       whole = w;
       bytes = b;
       long = l;
@@ -60,7 +60,7 @@ module _ (j k : Journal) (s : Sound j) (h : Alike j k) (cs : List Call) (few : l
   read-back : calls-in (k .format) (bounds k) (now (k .block)) ≡ cs
   read-back =
       let f = h .format in
-      let l : bounds k ≡ bounds j = ap Rattle.columns.specs.Sizes.limits-of (h .limits) in
+      let l : bounds k ≡ bounds j = ap limits-of (h .limits) in
       let b = journal-block-back (j .format) (s .narrow) (bounds j) (s .lawful) (j .epoch) (s .early) cs few st in
       ap (λ x. calls-in x (bounds k) (now (k .block))) f ∙ ap (λ x. calls-in (j .format) x (now (k .block))) l ∙ ap (calls-in (j .format) (bounds j)) p ∙ b
 
@@ -130,7 +130,7 @@ stands-more j k c s a h =
 pub read-sound : (j : Journal) (n : ℕ) → Sound j → Sound (record { block = j .block; format = j .format; limits = j .limits; epoch = j .epoch; blocks = j .blocks; read = n; count = j .count })
 unfolding tail
 read-sound j n s =
-    record { lawful = s .lawful; named = s .named; narrow = s .narrow; early = s .early; short = s .short; whole = s .whole; bytes = s .bytes; long = s .long; rows = s .rows }
+    record { lawful = s .lawful; named = s .named; narrow = s .narrow; early = s .early; whole = s .whole; bytes = s .bytes; long = s .long; rows = s .rows }
 
 pub read-stands : (j : Journal) (n : ℕ) (s : List Call) → Stands j s → Stands (record { block = j .block; format = j .format; limits = j .limits; epoch = j .epoch; blocks = j .blocks; read = n; count = j .count }) s
 unfolding tail

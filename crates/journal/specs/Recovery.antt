@@ -1,16 +1,14 @@
 -- How the journal is read again, block by block. Assumes nothing: these are definitions.
 use mathlib.Core.Path.{_≡_}
 use mathlib.Core.Logic.{_⊎_}
-use mathlib.Core.Bool.{Bool, true, false, not, _&&_, _||_}
+use mathlib.Core.Bool.{Bool, true, not, _&&_, _||_}
 use mathlib.Core.List.{List, [], _∷_, _++_}
-use Prim.Native.Nat.{ℕ, suc, _+_, _*_, _/_, _≤_, _<_}
+use Prim.Native.Nat.{ℕ, _+_, _*_, _≤_, _<_}
 use lib.Dec.{eqb, leb, ltb}
 use lib.ListN.{length, getD}
-use denote.Ref.{now}
 use Rattle.std.specs.declared.option.Option.{Option}
 use Rattle.std.specs.declared.option.Option.the-variants.{Some, None}
 use Rattle.device.specs.Device.{pick, Device}
-use Rattle.device.specs.Book.{every}
 use Rattle.device.specs.Rows.{rows-in}
 use Rattle.device.specs.Journal.{gather, takes, logged}
 use Rattle.device.specs.Resident.{Memory, loaded, how-many}
@@ -25,7 +23,7 @@ use Rattle.wire.specs.declared.call.Call.{Call as Told}
 use Rattle.wire.specs.JournalRow.{kind-at}
 use Rattle.wire.specs.Meaning.{meant}
 use Rattle.journal.specs.declared.journal.Journal.{Journal}
-use Rattle.journal.specs.Tail.{bounds, tail, Alike, Stands}
+use Rattle.journal.specs.Tail.{bounds, tail, Stands}
 
 -- how many rows a block has of the journal's epoch: a block of an earlier one counts as empty
 abbrev pub rows-of : ℕ → Limits → ℕ → List ℕ → ℕ
@@ -51,9 +49,33 @@ accepts-next j bs = ltb (j .read) (j .blocks) && accepts (j .format) (bounds j) 
 abbrev pub next-rows : Journal → List ℕ → ℕ
 next-rows j bs = rows-of (j .format) (bounds j) (j .epoch) bs
 
--- a block was taken: it counts as read, and its rows are told; or it was refused
-abbrev pub Took : Journal → Journal → List ℕ → Option ℕ → Type 0
-Took j k bs r = (r ≡ pick (accepts-next j bs) (Some (next-rows j bs)) None) × (k ≡ record { block = j .block; format = j .format; limits = j .limits; epoch = j .epoch; blocks = j .blocks; read = j .read + pick (accepts-next j bs) 1 0; count = j .count })
+-- a block that was accepted: it is whole, has no more rows than fit, and if it has some, these join those before
+pub record Fit (j : Journal) (bs : List ℕ) (n : ℕ) : Type 0 where
+  pub whole : length bs ≡ 512
+  pub few : n ≤ 24
+  pub there : j .read < j .blocks
+  pub joins : 0 < n → j .count ≡ 24 * j .read
+
+-- so of what is told of a block
+abbrev pub Fits : Journal → List ℕ → Option ℕ → Type 0
+Fits j bs (Some n) = Fit j bs n
+Fits j bs None = Unit {0}
+
+-- a block was taken: its rows are told, and it counts as read; or it was refused, and nothing changed
+pub record Took (j k : Journal) (bs : List ℕ) (r : Option ℕ) : Type 0 where
+  pub found : r ≡ pick (accepts-next j bs) (Some (next-rows j bs)) None
+  pub fit : Fits j bs r
+  pub after :
+      k
+      ≡ record {
+        block = j .block;
+        format = j .format;
+        limits = j .limits;
+        epoch = j .epoch;
+        blocks = j .blocks;
+        read = j .read + pick (accepts-next j bs) 1 0;
+        count = j .count;
+      }
 
 -- the call of row i of a block, by a kind that there is; or none
 abbrev pub Row-of : List ℕ → ℕ → Option Told → Type 0

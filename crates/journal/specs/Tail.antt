@@ -2,7 +2,7 @@
 use mathlib.Core.Path.{_≡_}
 use mathlib.Core.Bool.{true}
 use mathlib.Core.List.{List, [], _∷_, _++_}
-use Prim.Native.Nat.{ℕ, suc, _+_, _*_, _/_, _%_, _≤_, _<_}
+use Prim.Native.Nat.{ℕ, suc, _+_, _/_, _%_, _<_}
 use lib.Dec.{eqb}
 use lib.ListN.{length, take}
 use denote.Ref.{now}
@@ -33,7 +33,6 @@ pub record Sound (j : Journal) : Type 0 where
   pub named : 0 < j .format
   pub narrow : j .format < 65536
   pub early : j .epoch < 4294967296
-  pub short : j .blocks < 4294967296
   pub whole : length (now (j .block)) ≡ 512
   pub bytes : 0 < j .count % 24 → now (j .block) ≡ block-with j (tail j)
   pub long : length (tail j) ≡ j .count % 24

@@ -24,30 +24,31 @@ use columns::limits::Limits;
 use wire::bytes::number_at;
 use wire::bytes::put_number;
 
-const FORMAT: usize = 0;
+// Where each number stands.
+const FORMAT_AT: usize = 0;
 
-const ROWS: usize = 2;
+const ROWS_AT: usize = 2;
 
-const OPTIONS: usize = 4;
+const OPTIONS_AT: usize = 4;
 
-const ACCOUNTS: usize = 6;
+const ACCOUNTS_AT: usize = 6;
 
-const EPOCH: usize = 8;
+const EPOCH_AT: usize = 8;
 
-const BOOKINGS: usize = 12;
+const BOOKINGS_AT: usize = 12;
 
-const RATES: usize = 16;
+const RATES_AT: usize = 16;
 
 // What a header says.
 #[derive(Clone, Copy)]
-pub struct Header {
-    pub format: u16,
-    pub rows: u16,
-    pub options: u16,
-    pub accounts: u16,
-    pub epoch: u32,
-    pub bookings: u32,
-    pub rates: u16,
+pub(crate) struct Header {
+    pub(crate) format: u16,
+    pub(crate) rows: u16,
+    pub(crate) options: u16,
+    pub(crate) accounts: u16,
+    pub(crate) epoch: u32,
+    pub(crate) bookings: u32,
+    pub(crate) rates: u16,
 }
 
 // The number in two bytes.
@@ -67,24 +68,24 @@ fn u32_at(block: &[u8], at: usize) -> u32
 }
 
 // Reads the header of a block.
-pub fn read_header(block: &[u8]) -> Header
+pub(crate) fn read_header(block: &[u8]) -> Header
     requires { ⌜ 32 ≤ length (now block) ⌝ }
     ensures { λ r. ⌜ head-of r ≡ head-in (now (block .entry)) ⌝ }
 {
     Header {
-        format: u16_at(block, FORMAT),
-        rows: u16_at(block, ROWS),
-        options: u16_at(block, OPTIONS),
-        accounts: u16_at(block, ACCOUNTS),
-        epoch: u32_at(block, EPOCH),
-        bookings: u32_at(block, BOOKINGS),
-        rates: u16_at(block, RATES),
+        format: u16_at(block, FORMAT_AT),
+        rows: u16_at(block, ROWS_AT),
+        options: u16_at(block, OPTIONS_AT),
+        accounts: u16_at(block, ACCOUNTS_AT),
+        epoch: u32_at(block, EPOCH_AT),
+        bookings: u32_at(block, BOOKINGS_AT),
+        rates: u16_at(block, RATES_AT),
     }
 }
 
 impl Header {
     // Is it of this format, and of a book with these limits?
-    pub fn is_of(self, format: u16, limits: Limits) -> bool
+    pub(crate) fn is_of(self, format: u16, limits: Limits) -> bool
         ensures { λ r. ⌜ r ≡ same-book format (limits-of limits) (head-of self) ⌝ }
     {
         self.format == format
@@ -118,11 +119,11 @@ pub(crate) fn write_header(block: &mut [u8], format: u16, limits: Limits, epoch:
     ensures { λ _. ⌜ now (block .exit) ≡ journal-block format (limits-of limits) epoch [] ⌝ }
 {
     block.fill(0);
-    put_number(block, FORMAT, 2, format as u64);
-    put_number(block, ACCOUNTS, 2, limits.accounts as u64);
-    put_number(block, EPOCH, 4, epoch as u64);
-    put_number(block, BOOKINGS, 4, limits.bookings as u64);
-    put_number(block, RATES, 2, limits.rates as u64);
+    put_number(block, FORMAT_AT, 2, format as u64);
+    put_number(block, ACCOUNTS_AT, 2, limits.accounts as u64);
+    put_number(block, EPOCH_AT, 4, epoch as u64);
+    put_number(block, BOOKINGS_AT, 4, limits.bookings as u64);
+    put_number(block, RATES_AT, 2, limits.rates as u64);
 }
 
 // Puts the number of rows into the header.
@@ -130,5 +131,5 @@ pub(crate) fn write_rows(block: &mut [u8], rows: u64)
     requires { ⌜ 32 ≤ length (now block) ⌝ }
     ensures { λ _. ⌜ now (block .exit) ≡ with-bytes (now (block .entry)) 2 (bytes-of 2 rows) ⌝ }
 {
-    put_number(block, ROWS, 2, rows);
+    put_number(block, ROWS_AT, 2, rows);
 }

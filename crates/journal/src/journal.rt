@@ -2,7 +2,7 @@
 ghost use mathlib.Core.Path.{_≡_};
 ghost use mathlib.Core.Bool.{true};
 ghost use mathlib.Core.List.{List, [], _∷_, _++_};
-ghost use Prim.Native.Nat.{_+_, _-_, _*_, _/_, _<_};
+ghost use Prim.Native.Nat.{_*_, _/_, _<_};
 ghost use lib.Dec.{ltb};
 ghost use lib.ListN.{length};
 ghost use Rattle.std.specs.declared.option.Option.the-variants.{Some, None};
@@ -12,19 +12,23 @@ ghost use Rattle.bank.specs.Promise.{allowed};
 ghost use Rattle.model.specs.JournalBlock.{stored};
 ghost use Rattle.columns.specs.Sizes.{limits-of};
 ghost use Rattle.wire.specs.Meaning.{meant};
-ghost use Rattle.journal.specs.Tail.{bounds, tail, block-with, Sound, Roomy, Appended, Stands};
+ghost use Rattle.journal.specs.Tail.{Sound, Roomy, Appended, Stands};
 ghost use Rattle.journal.specs.Recovery.{accepts-next, next-rows, Took, Row-of};
-use blocks::BLOCK;
-use columns::limits::Limits;
 use crate::header::read_header;
 use crate::header::write_header;
 use crate::header::write_rows;
+use blocks::BLOCK;
+use columns::limits::Limits;
 use wire::call::Call;
 use wire::row::read_row;
 use wire::row::write_row;
 
-// Rows in a block.
-pub const ROWS: u64 = 24;
+// Bytes of a header and of a row, and rows in a block.
+const HEADER: usize = 32;
+
+const ROW: usize = 20;
+
+const ROWS: u64 = 24;
 
 // The journal of a book, whose block is lent.
 #[derive(Drop)]
@@ -54,6 +58,7 @@ impl<'a> Journal<'a> {
         ensures stands { λ r. ⌜ Stands r [] ⌝ }
         ensures book { λ r. ⌜ (r .format ≡ format) × (r .limits ≡ limits) × (r .epoch ≡ epoch) ⌝ }
         ensures blocks { λ r. ⌜ (r .blocks ≡ blocks) × (r .read ≡ 0) ⌝ }
+        ensures bytes { λ r. ⌜ now (r .block) ≡ now (block .entry) ⌝ }
     {
         Journal {
             block,
@@ -95,7 +100,7 @@ impl Journal<'_> {
         let n = self.count % ROWS;
         let k = self.count / ROWS;
         write_rows(self.block, n + 1);
-        write_row(self.block, 32 + 20 * n as usize, call);
+        write_row(self.block, HEADER + ROW * n as usize, call);
         self.count += 1;
         k
     }
@@ -105,16 +110,6 @@ impl Journal<'_> {
         ensures { λ r. ⌜ now r ≡ now (now (self .entry) .block) ⌝ }
     {
         self.block
-    }
-
-    // The block that the last call stands in.
-    pub fn last_block(&self) -> u64
-        ensures { λ r. ⌜ r ≡ (now (self .entry) .count - 1) / 24 ⌝ }
-    {
-        if self.count == 0 {
-            return 0;
-        }
-        (self.count - 1) / ROWS
     }
 
     // The block that recovery reads next; none where it has read all.
@@ -184,5 +179,5 @@ pub fn row_at(block: &[u8], i: usize) -> Option<Call>
     requires there { ⌜ i < 24 ⌝ }
     ensures { λ r. ⌜ Row-of (now (block .entry)) i r ⌝ }
 {
-    read_row(block, 32 + 20 * i)
+    read_row(block, HEADER + ROW * i)
 }

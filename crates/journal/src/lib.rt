@@ -4,6 +4,7 @@ ghost use mathlib.Core.Bool.{true};
 ghost use Rattle.bank.specs.Calls.{Limits as Bounds};
 ghost use Rattle.bank.specs.Promise.{allowed};
 ghost use Rattle.journal.specs.Recovery.{First-recovered, First-starts, First-has-room};
+
 pub mod header;
 pub mod journal;
 

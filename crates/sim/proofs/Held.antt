@@ -2,12 +2,12 @@
 use mathlib.Core.Path.{_≡_, refl, sym, ap, subst, _∙_}
 use mathlib.Core.Logic.{_⊎_, inl, inr}
 use mathlib.Core.Bool.{Bool, true, false}
-use mathlib.Core.List.{List, [], _∷_, _++_, append-assoc}
+use mathlib.Core.List.{List, [], _∷_, _++_}
 use Prim.Native.Nat.{ℕ, zero, suc}
 use lib.Dec.{eqb}
 use borrow.Author.Tests.{eqb-true}
-use Rattle.device.specs.Device.{Device, Act, write, flush, say, put, pick, safe, since-flush, wrote, Left-by}
-use Rattle.device.specs.Plan.{Write, writes, put-all, Among, Torn}
+use Rattle.device.specs.Device.{Device, Act, write, flush, say, pick, safe, since-flush, wrote, Left-by}
+use Rattle.device.specs.Plan.{Write, writes, put-all, Among}
 use Rattle.sim.specs.Held.{Held, at-rest, done, dones}
 use Rattle.sim.specs.Cut.{bytes-to, chosen, number-for, cut-by}
 use Rattle.sim.proofs.Writes.{put-all-push}

@@ -1,15 +1,15 @@
 -- Writes that are kept one behind the other, and what is left of them.
 use mathlib.Core.Path.{_≡_, refl, sym, ap, _∙_}
-use mathlib.Core.Logic.{_⊎_, inl, inr, _≢_}
+use mathlib.Core.Logic.{inl, inr, _≢_}
 use mathlib.Core.Bool.{Bool, true, false}
 use mathlib.Core.List.{List, [], _∷_, _++_, append-assoc, append-nil}
-use Prim.Native.Nat.{ℕ, zero, suc, _+_, _*_, _-_, _≤_, _<_}
+use Prim.Native.Nat.{ℕ, zero, suc, _+_, _*_, _≤_, _<_}
 use native.Mathlib.Omega.{arith}
 use lib.Dec.{eqb, ltb}
-use lib.ListN.{length, take, drop, getD, length-append}
-use Rattle.std.proofs.shelf.Tests.{cases-eq, cases-lt, eq-eqb, ne-eqb, lt-ltb}
+use lib.ListN.{length, take, drop, getD}
+use Rattle.std.proofs.shelf.Tests.{cases-eq, eq-eqb, ne-eqb, lt-ltb}
 use Rattle.std.proofs.shelf.Ways.{tells}
-use Rattle.std.proofs.shelf.Lists.{length-take, take-take, drop-take, drop-drop, drop-all, take-more, drop-more, take-more-set, length-set, getD-set-same, getD-set-other}
+use Rattle.std.proofs.shelf.Lists.{length-take, take-take, drop-take, drop-drop, drop-all, take-more, drop-more, take-more-set, getD-set-same, getD-set-other}
 use Rattle.device.specs.Device.{Device, pick, put}
 use Rattle.device.specs.Plan.{Write, put-all}
 use borrow.Author.Count.{below-more}

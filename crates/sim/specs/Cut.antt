@@ -1,7 +1,6 @@
 -- What a cut leaves, by a row of numbers: one for each block that was written since the last flush, in the order of their first write. 0 is as it was, n what the
 -- n-th write put there, or the last where there are fewer; a number that lacks counts as 0. Assumes nothing: these are definitions.
-use mathlib.Core.Bool.{Bool, true, false}
-use mathlib.Core.List.{List, [], _∷_, _++_}
+use mathlib.Core.List.{List, [], _∷_}
 use Prim.Native.Nat.{ℕ, zero, suc, _+_}
 use lib.Dec.{eqb}
 use lib.ListN.{take, drop, getD}

@@ -8,7 +8,7 @@ ghost use Rattle.device.specs.Plan.{put-all};
 ghost use Rattle.bank.specs.Device.{Act, Left-by};
 ghost use Rattle.bank.specs.Calls.{Answer};
 ghost use Rattle.blocks.specs.Blocks.{block, device-of};
-ghost use Rattle.sim.specs.Held.{Held, at-rest, done, dones};
+ghost use Rattle.sim.specs.Held.{at-rest, done, dones};
 ghost use Rattle.sim.specs.Cut.{times, turn, cut-by};
 ghost use Rattle.sim.specs.Sims.{places-in, kept, holds, room, takes, left-of, Sound};
 use blocks::BLOCK;

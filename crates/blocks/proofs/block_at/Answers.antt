@@ -1,4 +1,4 @@
-use mathlib.Core.Path.{_≡_, refl, sym, ap, _∙_}
+use mathlib.Core.Path.{refl, sym, ap, _∙_}
 use lib.ListN.{length}
 use Rattle.blocks.proofs.Parts.{part-read}
 use Rattle.blocks.proofs.Blocks.{length-block, device-block}

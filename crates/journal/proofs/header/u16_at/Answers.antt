@@ -1,7 +1,6 @@
-use mathlib.Core.Path.{_≡_}
 use native.Mathlib.Omega.{arith}
 use Prim.Native.Nat.{_+_}
-use lib.ListN.{drop, getD}
+use lib.ListN.{drop}
 use Rattle.std.proofs.shelf.Lists.{getD-drop}
 use Rattle.journal.proofs.Headers.{number-less}
 use Rattle.journal.proofs.header.u16_at.Needs as need

@@ -1,8 +1,8 @@
 use native.Mathlib.Omega.{arith}
-use mathlib.Core.Path.{_≡_, refl, sym, subst, fun-ext}
+use mathlib.Core.Path.{refl, sym, subst, fun-ext}
 use Rattle.device.specs.Device.{Device, Left-by}
 use Rattle.bank.specs.Calls.{Answer}
-use Rattle.sim.specs.Cut.{writes-in, cut-by}
+use Rattle.sim.specs.Cut.{writes-in}
 use Rattle.sim.specs.Sims.{holds}
 use Rattle.sim.proofs.Held.{cut-left}
 use Rattle.sim.proofs.Unflushed.cut.Needs as need

@@ -1,8 +1,8 @@
 use native.Mathlib.Omega.{arith}
-use mathlib.Core.Path.{_≡_, refl, ap}
+use mathlib.Core.Path.{refl, ap}
 use mathlib.Core.List.{[]}
 use Rattle.device.specs.Device.{Device}
-use Rattle.sim.specs.Held.{Held, done}
+use Rattle.sim.specs.Held.{done}
 use Rattle.sim.specs.Cut.{writes-in}
 use Rattle.sim.proofs.Unflushed.flush.Needs as need
 

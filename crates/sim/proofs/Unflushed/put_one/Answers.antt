@@ -1,9 +1,9 @@
 use mathlib.Core.Path.{_≡_, ap, _∙_}
 use mathlib.Core.List.{List}
-use Prim.Native.Nat.{ℕ, _+_, _*_, _≤_}
+use Prim.Native.Nat.{ℕ}
 use native.Mathlib.Omega.{arith}
 use denote.Ref.{now}
-use lib.ListN.{length, getD}
+use lib.ListN.{getD}
 use Rattle.blocks.specs.Blocks.{block, put-block, device-of}
 use Rattle.blocks.proofs.Blocks.{length-block, device-put}
 use Rattle.sim.proofs.Unflushed.put_one.Needs as need

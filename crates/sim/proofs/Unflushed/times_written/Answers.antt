@@ -1,12 +1,9 @@
-use mathlib.Core.Path.{_≡_, refl, sym, ap, _∙_}
-use Prim.Native.Nat.{ℕ, _+_, _<_, _≤_}
+use mathlib.Core.Path.{_≡_, sym, ap, _∙_}
+use Prim.Native.Nat.{ℕ, _+_}
 use native.Mathlib.Omega.{arith}
 use mathlib.Core.List.{List}
 use denote.Ref.{now}
-use lib.ListN.{length, take, getD}
-use lib.Dec.{eqb}
-use Rattle.device.specs.Device.{pick}
-use Rattle.sim.specs.Cut.{times}
+use lib.ListN.{getD}
 use Rattle.sim.proofs.Writes.{times-none, times-more}
 use Rattle.sim.proofs.Unflushed.times_written.Needs as need
 use Rattle.sim.proofs.Unflushed.times_written.Needs.{then-place-k, else-place-k}

@@ -6,7 +6,6 @@ use denote.Ref.{now}
 use lib.ListN.{length, take, drop, getD}
 use Rattle.std.proofs.shelf.Lists.{length-take, getD-take, take-more}
 use Rattle.sim.specs.Cut.{times, different, before}
-use Rattle.sim.specs.Sims.{places-in}
 use Rattle.sim.proofs.Writes.{before-here, before-more, before-end, different-more}
 use Rattle.sim.proofs.Unflushed.turn_of.Needs as need
 use Rattle.sim.proofs.Unflushed.turn_of.Needs.{then-times-written-eq0, else-times-written-eq0}

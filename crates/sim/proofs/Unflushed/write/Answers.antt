@@ -1,15 +1,14 @@
-use mathlib.Core.Path.{_≡_, refl, sym, subst, ap, _∙_}
-use mathlib.Core.List.{List, _∷_, [], _++_}
+use mathlib.Core.Path.{_≡_, refl, sym, ap, _∙_}
+use mathlib.Core.List.{List}
 use Prim.Native.Nat.{ℕ, _+_, _*_, _/_, _<_, _≤_, min}
 use native.Mathlib.Omega.{arith}
-use borrow.Author.Needs.{needs}
-use lib.ListN.{length, take, drop, getD, set}
+use lib.ListN.{length, take, set}
 use Rattle.std.proofs.shelf.Lists.{length-set}
 use Rattle.std.proofs.shelf.Tests.{and-from, lt-ltb, eq-eqb}
 use Rattle.device.specs.Plan.{Write}
 use Rattle.blocks.specs.Blocks.{put-block, device-of}
 use Rattle.blocks.proofs.Blocks.{length-put}
-use Rattle.sim.specs.Held.{Held, done}
+use Rattle.sim.specs.Held.{done}
 use Rattle.sim.specs.Cut.{writes-in}
 use Rattle.sim.proofs.Writes.{kept-write, inside-write}
 use Rattle.sim.proofs.Unflushed.write.Needs as need

@@ -1,5 +1,5 @@
 use mathlib.Core.Path.{refl}
-use Rattle.journal.proofs.Tails.{emptied, alike-self}
+use Rattle.journal.proofs.Tails.{emptied}
 use Rattle.journal.proofs.journal.Journal.make_room.Needs as need
 
 pub returns : need.returns

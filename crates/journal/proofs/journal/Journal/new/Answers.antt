@@ -1,4 +1,4 @@
-use mathlib.Core.Path.{refl, ap, _∙_}
+use mathlib.Core.Path.{refl, ap}
 use lib.ListN.{length}
 use native.Mathlib.Omega.{arith}
 use Rattle.device.specs.Book.{every}
@@ -16,7 +16,6 @@ returns c =
         named = c .pre .named;
         narrow = omega arith;
         early = omega arith;
-        short = omega arith;
         whole = c .pre .whole;
         bytes = λ u. absurd (omega arith);
         long = ap length e;
@@ -25,4 +24,5 @@ returns c =
       stands = record { count = refl; tail = e };
       book = (refl, refl, refl);
       blocks = (refl, refl);
+      bytes = refl;
     }
