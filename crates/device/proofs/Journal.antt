@@ -27,7 +27,7 @@ module _ {C A : Type 0} (b : Book C A) (ok stored asks : C → Bool) (p : ℕ) (
     pub short : length s ≤ r * p
 
   -- a call that is taken finds room
-  room-left : (s : List C) (c : C) → Sound s → takes b ok changes s c ≡ true → length s < r * p
+  pub room-left : (s : List C) (c : C) → Sound s → takes b ok changes s c ≡ true → length s < r * p
   unfolding takes
   room-left s c h t =
       let q = and-parts _ _ t in
@@ -97,7 +97,7 @@ module _ {C A : Type 0} (b : Book C A) (ok stored asks : C → Bool) (p : ℕ) (
     abbrev log : List C → List C
     log ts = logged b ok changes [] ts
 
-    sound-log : (ts : List C) → Sound (log ts)
+    pub sound-log : (ts : List C) → Sound (log ts)
     sound-log ts = sound-logged [] ts sound-none
 
     -- a start finds the journal

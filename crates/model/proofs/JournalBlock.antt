@@ -100,11 +100,11 @@ module _ (format : ℕ) (small : format < 65536) (l : Limits) (a : allowed l ≡
   head-length : length (row-of head-row head) ≡ 32
   head-length = row-of-length head-row head head-fits
 
-  journal-block-head : head-in (journal-block format l e cs) ≡ head
+  pub journal-block-head : head-in (journal-block format l e cs) ≡ head
   unfolding journal-block block-of
   journal-block-head = row-of-back head-row head _ head-fits refl
 
-  journal-block-headed : headed format l (journal-block format l e cs) ≡ true
+  pub journal-block-headed : headed format l (journal-block format l e cs) ≡ true
   unfolding headed
   journal-block-headed = rw journal-block-head (same-self format l e (length cs))
 

@@ -1,0 +1,4 @@
+pub mod Headers
+pub mod Tails
+pub mod Accepts
+pub mod Recovery

@@ -1,0 +1,3 @@
+pub mod Headers
+pub mod Tail
+pub mod Recovery
