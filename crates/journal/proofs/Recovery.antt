@@ -22,11 +22,12 @@ use Rattle.device.proofs.Rows.{number-back, behind, row-of-length, rows-in-leng
 use Rattle.bank.specs.Calls.{Call, opens, rated, move, take-back, day-ends, balance, statement, sums, taken-so-far, garbled, Limits}
 use Rattle.bank.specs.Promise.{asks, room, allowed}
 use Rattle.model.specs.Core.{book}
-use Rattle.model.specs.First.{first-call, changes, size, not-yet, journal-format, first-reading}
+use Rattle.model.specs.First.{first-call, size, not-yet, journal-format, first-reading}
+use Rattle.bank.specs.Count.{changes}
 use Rattle.model.specs.JournalBlock.{Head, head-row, head-for, head-in, headed, own, call-row, call-kind, stored, journal-block, calls-in}
 use Rattle.model.proofs.First.{first-grows, journal-reads-back}
 use Rattle.model.proofs.JournalBlock.{call-fits, journal-block-head, journal-block-headed}
-use Rattle.model.proofs.Taken.{never}
+use Rattle.bank.proofs.Limited.{never}
 use Rattle.wire.specs.JournalRow.{kind-at}
 use Rattle.journal.proofs.Accepts.{and-no, or-yes, pick-none}
 use Rattle.journal.specs.Recovery.{rows-of, later, accepts, Taken-after, journal-in, First-accepted, First-starts, First-has-room}

@@ -15,7 +15,8 @@ use Rattle.device.specs.Resident.{Memory, loaded, how-many}
 use Rattle.bank.specs.Calls.{Call, Limits}
 use Rattle.bank.specs.Promise.{room}
 use Rattle.model.specs.Core.{book}
-use Rattle.model.specs.First.{first-call, changes, not-yet, journal-format, first-program, first-reading}
+use Rattle.model.specs.First.{first-call, not-yet, journal-format, first-program, first-reading}
+use Rattle.bank.specs.Count.{changes}
 use Rattle.model.specs.JournalBlock.{call-row, head-in, limits-in, headed, own, calls-in}
 use Rattle.columns.specs.Sizes.{limits-of}
 use Rattle.columns.specs.declared.limits.Limits.{Limits as Given}

@@ -11,7 +11,7 @@ use Rattle.bank.specs.Builders.{no-account, booking-at}
 use Rattle.bank.specs.Calls.{limit-of, none-there, rates-in}
 use Rattle.model.specs.Register.{Dated}
 use Rattle.model.specs.Snapshot.{rates-of, accounts-of}
-use Rattle.model.proofs.Count.{rates-set as rates-one-more}
+use Rattle.bank.proofs.Count.{rates-set as rates-one-more}
 use Rattle.model.proofs.Register.{accounts-put, with-rate, rate-of}
 use Rattle.columns.specs.Cells.{limits-in}
 use Rattle.columns.specs.Firsts.{first-of}

@@ -18,7 +18,7 @@ use Rattle.device.specs.Rows.{bytes-of, number-of, numbers, row, row-of, thing-
 use Rattle.device.proofs.Rows.{length-bytes, number-back, row-length, row-of-back, row-of-length, zeros}
 use Rattle.model.specs.JournalBlock.{call-from, call-kind, call-numbers, call-row, call-widths, stored}
 use Rattle.model.proofs.JournalBlock.{call-back, call-fits, storable}
-use Rattle.model.proofs.Taken.{never}
+use Rattle.bank.proofs.Limited.{never}
 use Rattle.wire.specs.declared.call.Call.{Call}
 use Rattle.wire.specs.declared.call.Call.the-variants.{Open, Rate, Move, TakeBack, DayEnds, Balance, Statement, Sums, Taken}
 use Rattle.wire.specs.Meaning.{meant}

@@ -1,0 +1,4 @@
+pub mod Serving
+pub mod Orders
+pub mod Openings
+pub mod Questions

@@ -1,0 +1,49 @@
+// Accounts: opening one with a limit and a rate, and setting a rate.
+ghost use mathlib.Core.Path.{_≡_};
+ghost use mathlib.Core.Bool.{true, false};
+ghost use lib.Dec.{leb};
+ghost use Prim.Native.Nat.{_<_, _≤_};
+ghost use Rattle.std.specs.declared.option.Option.the-variants.{Some, None};
+ghost use Rattle.bank.specs.Calls.{opens};
+ghost use Rattle.desk.specs.Desk.{Kept, Served, reply, took};
+use crate::MOST;
+use crate::refusal::Refusal;
+use ledger::Ledger;
+use wire::answer::Answer;
+
+// A limit that an account can have.
+fn allowable(limit: u64) -> Option<u64>
+    ensures { λ r. ⌜ elim r [ Some m ↦ (m ≡ limit) × (leb limit 100000000000 ≡ true) | None ↦ leb limit 100000000000 ≡ false ] ⌝ }
+{
+    if limit <= MOST { Some(limit) } else { None }
+}
+
+// A yearly rate that an account can have, in hundredths of a per cent.
+fn rate_of(rate: u64) -> Option<u32>
+    ensures { λ r. ⌜ elim r [ Some x ↦ (x ≡ rate) × (leb rate 2000 ≡ true) | None ↦ leb rate 2000 ≡ false ] ⌝ }
+{
+    if rate <= 2000 {
+        Some(rate as u32)
+    } else {
+        None
+    }
+}
+
+// Opens an account with a limit and a rate from today on.
+pub(crate) fn open(ledger: &mut Ledger, limit: u64, rate: u64) -> Result<Answer, Refusal>
+    requires { ⌜ Kept (now ledger) ⌝ }
+    ensures { λ r. ⌜ Served (now (ledger .entry)) (now (ledger .exit)) (opens limit rate) (reply r) (took r) ⌝ }
+{
+    let Some(limit) = allowable(limit) else {
+        return Err(Refusal::Limit);
+    };
+    let Some(rate) = rate_of(rate) else {
+        return Err(Refusal::Rate);
+    };
+    if !ledger.has_room_for_account() {
+        return Err(Refusal::NoRoom);
+    }
+    let number = ledger.add_account(limit, rate);
+    ledger.count_call();
+    Ok(Answer::Number(number as u64))
+}
