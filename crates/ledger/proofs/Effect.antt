@@ -20,7 +20,7 @@ use Rattle.model.specs.Snapshot.{rates-of, accounts-of}
 use Rattle.model.proofs.Register.{same-rates, no-rates, accounts-skip, accounts-put, accounts-snoc}
 use Rattle.columns.specs.Cells.{limits-in, Roomy, Sums, Account-added, Credited, Debited}
 use Rattle.columns.specs.Firsts.{first-of}
-use Rattle.columns.specs.Links.{Linkable, Chained, Begun, Linked}
+use Rattle.columns.specs.Links.{Linkable, Chained, Begun-both, Linked-both}
 use Rattle.columns.specs.RateRows.{rate-row, rate-rows, Rated, Rate-added}
 use Rattle.columns.specs.Rows.{row, rows, Sound, Appended, Marked}
 use Rattle.columns.specs.Spare.{Spare}
@@ -66,8 +66,7 @@ fit-here g b f = fit-more (bank g .today) (length (bank g .accounts)) (g .today)
 
 -- one more booking
 module _ (g h : Ledger) (b : Booking) (w : Whole g) (f : Fit (g .today) (g .accounts .count) b) (v : g .bookings .count < g .bookings .capacity) (t : h .today ≡ g .today) (d : h .done ≡ g .done)
-    (k : Credited (g .accounts) (h .accounts) b) (p : Appended (g .bookings) (h .bookings) b) (l : Linked (g .incoming) (h .incoming) (b .to) (g .bookings .count))
-    (o : Linked (g .outgoing) (h .outgoing) (b .from) (g .bookings .count)) (q : h .rates ≡ g .rates) (s : h .scratch ≡ g .scratch) where
+    (k : Credited (g .accounts) (h .accounts) b) (p : Appended (g .bookings) (h .bookings) b) (l : Linked-both (g .chains) (h .chains) b (g .bookings .count)) (q : h .rates ≡ g .rates) (s : h .scratch ≡ g .scratch) where
   booked-bank : bank h ≡ made (bank g) (books b)
   unfolding bank made
   booked-bank = let a = limits-same (g .accounts) (h .accounts) (k .limit) (k .count) in let r = p .rows in cc
@@ -93,15 +92,14 @@ module _ (g h : Ledger) (b : Booking) (w : Whole g) (f : Fit (g .today) (g .acco
     fit = booked-fit;
     today = rw t (w .today);
     done = omega (arith, w .done, booked-most, d);
-    to-room = rw (k .capacity, p .capacity) (linkable-linked (g .incoming) (h .incoming) _ _ _ _ (w .to-room) l);
-    from-room = rw (k .capacity, p .capacity) (linkable-linked (g .outgoing) (h .outgoing) _ _ _ _ (w .from-room) o);
+    chains = rw (k .capacity, p .capacity) (linkable-linked (g .chains) (h .chains) b (g .bookings .count) _ _ (w .chains) l);
     incoming = rw (p .count, k .count)
-        (chained-push (g .incoming) (h .incoming) (λ i. row (g .bookings) i .to) (λ i. row (h .bookings) i .to) (b .to) (g .bookings .count) (g .accounts .count)
-        (omega (arith, w .to-room .accounts, w .accounts .count)) (omega (arith, w .to-room .bookings)) (w .incoming) l (f .to)
+        (chained-push (g .chains .incoming) (h .chains .incoming) (λ i. row (g .bookings) i .to) (λ i. row (h .bookings) i .to) (b .to) (g .bookings .count) (g .accounts .count)
+        (omega (arith, w .chains .heads-in, w .accounts .count)) (omega (arith, w .chains .links-in)) (w .incoming) (l .incoming) (f .to)
         (λ i u. ap (λ x. x .to) (appended-row (g .bookings) (h .bookings) b i p u)) (ap (λ x. x .to) (appended-last (g .bookings) (h .bookings) b p)));
     outgoing = rw (p .count, k .count)
-        (chained-push (g .outgoing) (h .outgoing) (λ i. row (g .bookings) i .from) (λ i. row (h .bookings) i .from) (b .from) (g .bookings .count) (g .accounts .count)
-        (omega (arith, w .from-room .accounts, w .accounts .count)) (omega (arith, w .from-room .bookings)) (w .outgoing) o (f .from)
+        (chained-push (g .chains .outgoing) (h .chains .outgoing) (λ i. row (g .bookings) i .from) (λ i. row (h .bookings) i .from) (b .from) (g .bookings .count) (g .accounts .count)
+        (omega (arith, w .chains .heads-out, w .accounts .count)) (omega (arith, w .chains .links-out)) (w .outgoing) (l .outgoing) (f .from)
         (λ i u. ap (λ x. x .from) (appended-row (g .bookings) (h .bookings) b i p u)) (ap (λ x. x .from) (appended-last (g .bookings) (h .bookings) b p)));
   }
 
@@ -128,7 +126,7 @@ module _ (g : Ledger) (i : ℕ) (b : Booking) where
 
 -- booking i marked as taken back today
 module _ (g h : Ledger) (i : ℕ) (b : Booking) (w : Whole g) (u : i < g .bookings .count) (e : b ≡ row (g .bookings) i) (z : b .back ≡ 0) (t : h .today ≡ g .today) (d : h .done ≡ g .done)
-    (k : Debited (g .accounts) (h .accounts) b) (p : Marked (g .bookings) (h .bookings) i (g .today)) (x : h .incoming ≡ g .incoming) (o : h .outgoing ≡ g .outgoing)
+    (k : Debited (g .accounts) (h .accounts) b) (p : Marked (g .bookings) (h .bookings) i (g .today)) (x : h .chains ≡ g .chains)
     (q : h .rates ≡ g .rates) (s : h .scratch ≡ g .scratch) where
   marked-bank : bank h ≡ made (bank g) (marks i)
   unfolding bank made
@@ -160,11 +158,10 @@ module _ (g h : Ledger) (i : ℕ) (b : Booking) (w : Whole g) (u : i < g .bookin
     fit = marked-fit;
     today = rw t (w .today);
     done = omega (arith, w .done, marked-most, d);
-    to-room = rw (x, k .capacity, p .capacity) (w .to-room);
-    from-room = rw (o, k .capacity, p .capacity) (w .from-room);
-    incoming = rw (x, p .count, k .count) (chained-same (g .incoming) (λ j. row (g .bookings) j .to) (λ j. row (h .bookings) j .to) (g .bookings .count) (g .accounts .count) (w .incoming)
+    chains = rw (x, k .capacity, p .capacity) (w .chains);
+    incoming = rw (x, p .count, k .count) (chained-same (g .chains .incoming) (λ j. row (g .bookings) j .to) (λ j. row (h .bookings) j .to) (g .bookings .count) (g .accounts .count) (w .incoming)
         (λ j v. marked-keeps (λ c. c .to) (λ m c. refl) (g .bookings) (h .bookings) i (g .today) j p u v));
-    outgoing = rw (o, p .count, k .count) (chained-same (g .outgoing) (λ j. row (g .bookings) j .from) (λ j. row (h .bookings) j .from) (g .bookings .count) (g .accounts .count) (w .outgoing)
+    outgoing = rw (x, p .count, k .count) (chained-same (g .chains .outgoing) (λ j. row (g .bookings) j .from) (λ j. row (h .bookings) j .from) (g .bookings .count) (g .accounts .count) (w .outgoing)
         (λ j v. marked-keeps (λ c. c .from) (λ m c. refl) (g .bookings) (h .bookings) i (g .today) j p u v));
   }
 
@@ -180,7 +177,7 @@ module _ (g h : Ledger) (i : ℕ) (b : Booking) (w : Whole g) (u : i < g .bookin
 
 -- a later day
 module _ (g h : Ledger) (w : Whole g) (u : h .today ≤ 3650) (t : g .today ≤ h .today) (d : h .done ≡ g .done) (a : h .accounts ≡ g .accounts) (r : h .rates ≡ g .rates) (b : h .bookings ≡ g .bookings)
-    (i : h .incoming ≡ g .incoming) (o : h .outgoing ≡ g .outgoing) (s : h .scratch ≡ g .scratch) where
+    (i : h .chains ≡ g .chains) (s : h .scratch ≡ g .scratch) where
   later-most : most-done h ≡ most-done g + (h .today - g .today)
   later-most = omega (arith, t, ap (λ y. y .count) r, ap (λ y. y .count) b, ap (λ y. backs (rows y)) b)
 
@@ -198,10 +195,9 @@ module _ (g h : Ledger) (w : Whole g) (u : h .today ≤ 3650) (t : g .today ≤ 
       fit = rw (a, b) (λ j v. fit-more (g .today) (g .accounts .count) (h .today) (g .accounts .count) (row (g .bookings) j) t (omega arith) (w .fit j v));
       today = u;
       done = omega (arith, w .done, later-most, d);
-      to-room = rw (i, a, b) (w .to-room);
-      from-room = rw (o, a, b) (w .from-room);
+      chains = rw (i, a, b) (w .chains);
       incoming = rw (i, b, a) (w .incoming);
-      outgoing = rw (o, b, a) (w .outgoing);
+      outgoing = rw (i, b, a) (w .outgoing);
     };
     limits-stay = cc;
   }
@@ -219,7 +215,7 @@ module _ (g h : Ledger) (w : Whole g) (u : h .today ≤ 3650) (t : g .today ≤ 
 
 -- another number of calls is counted
 module _ (g h : Ledger) (k : ℕ) (w : Whole g) (u : k ≤ most-done g) (t : h .today ≡ g .today) (d : h .done ≡ k) (a : h .accounts ≡ g .accounts) (r : h .rates ≡ g .rates) (b : h .bookings ≡ g .bookings)
-    (i : h .incoming ≡ g .incoming) (o : h .outgoing ≡ g .outgoing) (s : h .scratch ≡ g .scratch) where
+    (i : h .chains ≡ g .chains) (s : h .scratch ≡ g .scratch) where
   done-most : most-done h ≡ most-done g
   done-most = omega (arith, t, ap (λ y. y .count) r, ap (λ y. y .count) b, ap (λ y. backs (rows y)) b)
 
@@ -237,10 +233,9 @@ module _ (g h : Ledger) (k : ℕ) (w : Whole g) (u : k ≤ most-done g) (t : h .
       fit = rw (a, b, t) (w .fit);
       today = rw t (w .today);
       done = omega (arith, u, done-most, d);
-      to-room = rw (i, a, b) (w .to-room);
-      from-room = rw (o, a, b) (w .from-room);
+      chains = rw (i, a, b) (w .chains);
       incoming = rw (i, b, a) (w .incoming);
-      outgoing = rw (o, b, a) (w .outgoing);
+      outgoing = rw (i, b, a) (w .outgoing);
     };
     limits-stay = cc;
   }
@@ -255,7 +250,7 @@ rated-more r m n h o = record { count = o .count; capacity = o .capacity; accoun
 
 -- one more rate of an account that is there
 module _ (g h : Ledger) (x : Dated) (w : Whole g) (u : x .account < g .accounts .count) (t : h .today ≡ g .today) (d : h .done ≡ g .done) (a : h .accounts ≡ g .accounts) (b : h .bookings ≡ g .bookings)
-    (i : h .incoming ≡ g .incoming) (o : h .outgoing ≡ g .outgoing) (s : h .scratch ≡ g .scratch) (f : Rate-added (g .rates) (h .rates) x) where
+    (i : h .chains ≡ g .chains) (s : h .scratch ≡ g .scratch) (f : Rate-added (g .rates) (h .rates) x) where
   rated-bank : bank h ≡ made (bank g) (rates (x .account) (record { since = x .since; rate = x .rate }))
   unfolding bank made
   rated-bank =
@@ -281,10 +276,9 @@ module _ (g h : Ledger) (x : Dated) (w : Whole g) (u : x .account < g .accounts 
       fit = rw (a, b, t) (w .fit);
       today = rw t (w .today);
       done = omega (arith, w .done, rated-most, d);
-      to-room = rw (i, a, b) (w .to-room);
-      from-room = rw (o, a, b) (w .from-room);
+      chains = rw (i, a, b) (w .chains);
       incoming = rw (i, b, a) (w .incoming);
-      outgoing = rw (o, b, a) (w .outgoing);
+      outgoing = rw (i, b, a) (w .outgoing);
     };
     limits-stay = let c = f .capacity in cc;
     unit = omega (arith, w .done, rated-most, d);
@@ -294,7 +288,7 @@ module _ (g h : Ledger) (x : Dated) (w : Whole g) (u : x .account < g .accounts 
 module _ (g h : Ledger) (l since r : ℕ) (w : Whole g) (small : l ≤ 100000000000) (u : g .accounts .count < g .accounts .capacity) (t : h .today ≡ g .today) (d : h .done ≡ g .done)
     (b : h .bookings ≡ g .bookings) (s : h .scratch ≡ g .scratch) (e : Account-added (g .accounts) (h .accounts) l)
     (f : Rate-added (g .rates) (h .rates) (record { account = g .accounts .count; since = since; rate = r }))
-    (i : Begun (g .incoming) (h .incoming) (g .accounts .count)) (o : Begun (g .outgoing) (h .outgoing) (g .accounts .count)) where
+    (i : Begun-both (g .chains) (h .chains) (g .accounts .count)) where
   added-bank : bank h ≡ made (bank g) (adds (new-account since l r))
   unfolding bank made
   added-bank =
@@ -332,10 +326,9 @@ module _ (g h : Ledger) (l since r : ℕ) (w : Whole g) (small : l ≤ 100000000
           fit = rw (b, e .count, t) (λ j v. fit-more (g .today) n (g .today) (n + 1) (row (g .bookings) j) (omega arith) (omega arith) (w .fit j v));
           today = rw t (w .today);
           done = omega (arith, w .done, added-most, d);
-          to-room = rw (b, e .capacity) (linkable-begun (g .incoming) (h .incoming) n _ _ (w .to-room) i);
-          from-room = rw (b, e .capacity) (linkable-begun (g .outgoing) (h .outgoing) n _ _ (w .from-room) o);
-          incoming = rw (b, e .count) (chained-begun (g .incoming) (h .incoming) (λ j. row (g .bookings) j .to) (g .bookings .count) n (omega (arith, w .to-room .accounts)) (w .incoming) i (λ j v. w .fit j v .to));
-          outgoing = rw (b, e .count) (chained-begun (g .outgoing) (h .outgoing) (λ j. row (g .bookings) j .from) (g .bookings .count) n (omega (arith, w .from-room .accounts)) (w .outgoing) o (λ j v. w .fit j v .from));
+          chains = rw (b, e .capacity) (linkable-begun (g .chains) (h .chains) n _ _ (w .chains) i);
+          incoming = rw (b, e .count) (chained-begun (g .chains .incoming) (h .chains .incoming) (λ j. row (g .bookings) j .to) (g .bookings .count) n (omega (arith, w .chains .heads-in)) (w .incoming) (i .incoming) (λ j v. w .fit j v .to));
+          outgoing = rw (b, e .count) (chained-begun (g .chains .outgoing) (h .chains .outgoing) (λ j. row (g .bookings) j .from) (g .bookings .count) n (omega (arith, w .chains .heads-out)) (w .outgoing) (i .outgoing) (λ j v. w .fit j v .from));
         };
         limits-stay = let a = e .capacity in let c = f .capacity in cc;
         unit = omega (arith, w .done, added-most, d);
@@ -344,7 +337,7 @@ module _ (g h : Ledger) (l since r : ℕ) (w : Whole g) (small : l ≤ 100000000
 -- one more account, without a rate
 module _ (g h : Ledger) (n l : ℕ) (w : Whole g) (small : l ≤ 100000000000) (u : g .accounts .count < g .accounts .capacity) (t : h .today ≡ g .today) (d : h .done ≡ g .done)
     (b : h .bookings ≡ g .bookings) (r : h .rates ≡ g .rates) (s : h .scratch ≡ g .scratch) (e : Account-added (g .accounts) (h .accounts) l) (q : n ≡ g .accounts .count)
-    (i : Begun (g .incoming) (h .incoming) n) (o : Begun (g .outgoing) (h .outgoing) n) where
+    (i : Begun-both (g .chains) (h .chains) n) where
   bare-bank : bank h ≡ made (bank g) (adds (bare-account l))
   unfolding bank made
   bare-bank =
@@ -360,8 +353,7 @@ module _ (g h : Ledger) (n l : ℕ) (w : Whole g) (small : l ≤ 100000000000) (
   unfolding rates-set
   bare =
       let m : ℕ = g .accounts .count in
-      let i′ = subst (Begun (g .incoming) (h .incoming)) q i in
-      let o′ = subst (Begun (g .outgoing) (h .outgoing)) q o in
+      let i′ = subst (Begun-both (g .chains) (h .chains)) q i in
       record {
         bank-is = bare-bank;
         rates-are = ap rate-rows r;
@@ -374,10 +366,9 @@ module _ (g h : Ledger) (n l : ℕ) (w : Whole g) (small : l ≤ 100000000000) (
           fit = rw (b, e .count, t) (λ j v. fit-more (g .today) m (g .today) (m + 1) (row (g .bookings) j) (omega arith) (omega arith) (w .fit j v));
           today = rw t (w .today);
           done = omega (arith, w .done, t, d, ap (λ y. y .count) r, ap (λ y. y .count) b, ap (λ y. backs (rows y)) b);
-          to-room = rw (b, e .capacity) (linkable-begun (g .incoming) (h .incoming) m _ _ (w .to-room) i′);
-          from-room = rw (b, e .capacity) (linkable-begun (g .outgoing) (h .outgoing) m _ _ (w .from-room) o′);
-          incoming = rw (b, e .count) (chained-begun (g .incoming) (h .incoming) (λ j. row (g .bookings) j .to) (g .bookings .count) m (omega (arith, w .to-room .accounts)) (w .incoming) i′ (λ j v. w .fit j v .to));
-          outgoing = rw (b, e .count) (chained-begun (g .outgoing) (h .outgoing) (λ j. row (g .bookings) j .from) (g .bookings .count) m (omega (arith, w .from-room .accounts)) (w .outgoing) o′ (λ j v. w .fit j v .from));
+          chains = rw (b, e .capacity) (linkable-begun (g .chains) (h .chains) m _ _ (w .chains) i′);
+          incoming = rw (b, e .count) (chained-begun (g .chains .incoming) (h .chains .incoming) (λ j. row (g .bookings) j .to) (g .bookings .count) m (omega (arith, w .chains .heads-in)) (w .incoming) (i′ .incoming) (λ j v. w .fit j v .to));
+          outgoing = rw (b, e .count) (chained-begun (g .chains .outgoing) (h .chains .outgoing) (λ j. row (g .bookings) j .from) (g .bookings .count) m (omega (arith, w .chains .heads-out)) (w .outgoing) (i′ .outgoing) (λ j v. w .fit j v .from));
         };
         limits-stay = let a = e .capacity in cc;
       }
@@ -385,25 +376,24 @@ module _ (g h : Ledger) (n l : ℕ) (w : Whole g) (small : l ≤ 100000000000) (
 -- the same, by the number that the account gets
 pub made-added-at : (g h : Ledger) (n l r : ℕ) (w : Whole g) (small : l ≤ 100000000000) (u : g .accounts .count < g .accounts .capacity) (t : h .today ≡ g .today) (d : h .done ≡ g .done)
     (b : h .bookings ≡ g .bookings) (s : h .scratch ≡ g .scratch) (e : Account-added (g .accounts) (h .accounts) l) → n ≡ g .accounts .count →
-    Rate-added (g .rates) (h .rates) (record { account = n; since = g .today; rate = r }) → Begun (g .incoming) (h .incoming) n → Begun (g .outgoing) (h .outgoing) n →
+    Rate-added (g .rates) (h .rates) (record { account = n; since = g .today; rate = r }) → Begun-both (g .chains) (h .chains) n →
     Made g h (adds (new-account (bank g .today) l r))
-made-added-at g h n l r w small u t d b s e q f i o =
+made-added-at g h n l r w small u t d b s e q f i =
     subst (λ (m : ℕ). Made g h (adds (new-account m l r))) (sym (bank-today g))
     (made-added g h l (g .today) r w small u t d b s e (subst (λ (m : ℕ). Rate-added (g .rates) (h .rates) (record { account = m; since = g .today; rate = r })) q f)
-    (subst (Begun (g .incoming) (h .incoming)) q i) (subst (Begun (g .outgoing) (h .outgoing)) q o))
+    (subst (Begun-both (g .chains) (h .chains)) q i))
 
 -- and one more booking, by its number and by what the caller knows of the bank
 pub made-booked-at : (g h : Ledger) (n : ℕ) (b : Booking) (w : Whole g) → Fit (bank g .today) (length (bank g .accounts)) b → length (bank g .bookings) < g .bookings .capacity → h .today ≡ g .today → h .done ≡ g .done →
-    n ≡ g .bookings .count → Credited (g .accounts) (h .accounts) b → Appended (g .bookings) (h .bookings) b → Linked (g .incoming) (h .incoming) (b .to) n → Linked (g .outgoing) (h .outgoing) (b .from) n →
+    n ≡ g .bookings .count → Credited (g .accounts) (h .accounts) b → Appended (g .bookings) (h .bookings) b → Linked-both (g .chains) (h .chains) b n →
     h .rates ≡ g .rates → h .scratch ≡ g .scratch → Made g h (books b)
-made-booked-at g h n b w f v t d q k p l o r s =
-    made-booked g h b w (fit-here g b f) (omega (arith, bank-count g)) t d k p (subst (Linked (g .incoming) (h .incoming) (b .to)) q l) (subst (Linked (g .outgoing) (h .outgoing) (b .from)) q o) r s
+made-booked-at g h n b w f v t d q k p l r s =
+    made-booked g h b w (fit-here g b f) (omega (arith, bank-count g)) t d k p (subst (Linked-both (g .chains) (h .chains) b) q l) r s
 
 -- scratch cells mean nothing: whoever writes them leaves the book as it was
-pub scratch-free : (g h : Ledger) → Whole g → Spare (h .scratch) (g .accounts .capacity) → h .accounts ≡ g .accounts → h .rates ≡ g .rates → h .bookings ≡ g .bookings → h .incoming ≡ g .incoming →
-    h .outgoing ≡ g .outgoing → h .today ≡ g .today → h .done ≡ g .done → Becomes g h (bank g)
+pub scratch-free : (g h : Ledger) → Whole g → Spare (h .scratch) (g .accounts .capacity) → h .accounts ≡ g .accounts → h .rates ≡ g .rates → h .bookings ≡ g .bookings → h .chains ≡ g .chains → h .today ≡ g .today → h .done ≡ g .done → Becomes g h (bank g)
 unfolding bank rates-set
-scratch-free g h w x a r b i o t d = record {
+scratch-free g h w x a r b i t d = record {
   bank-is = cc;
   rates-are = ap rate-rows r;
   whole = record {
@@ -415,10 +405,9 @@ scratch-free g h w x a r b i o t d = record {
     fit = rw (a, b, t) (w .fit);
     today = rw t (w .today);
     done = omega (arith, w .done, d, t, ap (λ y. y .count) r, ap (λ y. y .count) b, ap (λ y. backs (rows y)) b);
-    to-room = rw (i, a, b) (w .to-room);
-    from-room = rw (o, a, b) (w .from-room);
+    chains = rw (i, a, b) (w .chains);
     incoming = rw (i, b, a) (w .incoming);
-    outgoing = rw (o, b, a) (w .outgoing);
+    outgoing = rw (i, b, a) (w .outgoing);
   };
   limits-stay = cc;
 }

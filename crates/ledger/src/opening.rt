@@ -92,16 +92,14 @@ impl<'a> Ledger<'a> {
         let rates = limits.rates as usize;
         let (running, rest) = cents.split_at_mut(4 * accounts);
         let (spare, amounts) = rest.split_at_mut(2 * accounts);
-        let (incoming, rest) = numbers.split_at_mut(accounts + bookings);
-        let (outgoing, rest) = rest.split_at_mut(accounts + bookings);
+        let (links, rest) = numbers.split_at_mut(2 * (accounts + bookings));
         let (spare_rates, rest) = rest.split_at_mut(accounts);
         let (rated, booked) = rest.split_at_mut(3 * rates);
         Ok(Ledger {
             accounts: Accounts::lay(running, accounts),
             rates: Rates::lay(rated, rates),
             bookings: Bookings::lay(amounts, booked, bookings),
-            incoming: Chains::lay(incoming, accounts, bookings),
-            outgoing: Chains::lay(outgoing, accounts, bookings),
+            chains: Chains::lay(links, accounts, bookings),
             scratch: Scratch::lay(spare, spare_rates, accounts),
             today: 0,
             done: 0,

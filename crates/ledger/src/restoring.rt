@@ -18,8 +18,7 @@ impl Ledger<'_> {
     {
         let number = self.accounts.count();
         self.accounts.append(limit);
-        self.incoming.begin(number);
-        self.outgoing.begin(number);
+        self.chains.begin(number);
     }
 
     // Goes on to a day.

@@ -46,4 +46,4 @@ returns c =
     let u : i < g .bookings .count = omega (arith, c .pre .there, bank-count g) in
     let e = c .get-b .ensures in
     let z : b .back ≡ 0 = ap (λ x. x .back) (e ∙ sym (bank-row g i u)) ∙ c .pre .counts in
-    made-marked g _ i b (c .pre .whole) u e z refl refl (c .debit .ensures) (c .take-back .ensures) refl refl refl refl
+    made-marked g _ i b (c .pre .whole) u e z refl refl (c .debit .ensures) (c .take-back .ensures) refl refl refl
