@@ -1,11 +1,10 @@
 -- Laws of running sums: after one more booking, after one is taken back, and with one more account.
-use mathlib.Core.Path.{_≡_, refl, sym, ap, _∙_}
-use mathlib.Core.Logic.{_≢_, _⊎_, inl, inr}
-use mathlib.Core.Bool.{Bool, true, false, _&&_}
+use mathlib.Core.Path.{_≡_, sym, ap, _∙_}
+use mathlib.Core.Logic.{_≢_, inl, inr}
+use mathlib.Core.Bool.{Bool}
 use mathlib.Core.List.{List, [], _∷_, _++_}
-use Prim.Native.Nat.{ℕ, zero, suc, _+_, _-_, _*_, _≤_, _<_}
+use Prim.Native.Nat.{ℕ, _+_, _-_, _≤_, _<_}
 use native.Mathlib.Omega.{arith}
-use lib.Dec.{eqb}
 use lib.ListN.{length, getD, set}
 use denote.Ref.{now}
 use Rattle.std.proofs.shelf.Tests.{cases-eq}
@@ -16,7 +15,7 @@ use Rattle.bank.proofs.Tally.{tally-append, tally-set}
 use Rattle.columns.specs.Parts.{live, live-order, live-to, live-from}
 use Rattle.columns.specs.Cells.{limits-in, Roomy, Sums, Account-added, Credited, Debited}
 use Rattle.columns.specs.declared.accounts.Accounts.{Accounts}
-use Rattle.columns.proofs.First.{first-same, first-push}
+use Rattle.columns.proofs.First.{first-push}
 use Rattle.columns.specs.Firsts.{first-of}
 use Rattle.columns.proofs.Cell.{cell-same, cell-other, cell-length}
 

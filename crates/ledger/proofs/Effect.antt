@@ -1,38 +1,35 @@
 -- What each effect leaves of a ledger.
 use mathlib.Core.Path.{_≡_, refl, sym, ap, _∙_, subst}
-use mathlib.Core.Logic.{_≢_, _⊎_, inl, inr}
-use mathlib.Core.Bool.{Bool, true, false}
+use mathlib.Core.Logic.{inl, inr}
+use mathlib.Core.Bool.{true, false}
 use mathlib.Core.List.{List, [], _∷_, _++_, append-nil}
 use Prim.Native.Nat.{ℕ, zero, suc, _+_, _-_, _≤_, _<_}
 use native.Mathlib.Omega.{arith}
-use native.Mathlib.Nat.{zero-add}
 use native.Mathlib.Numerals.{add-one}
 use lib.Dec.{eqb}
 use lib.ListN.{length, getD, set}
 use denote.Ref.{now}
 use Rattle.std.proofs.shelf.Tests.{cases-eq, ne-eqb}
-use Rattle.bank.specs.Book.{pick, Rate, Account, Booking, Bank}
-use Rattle.bank.specs.Builders.{no-account, new-account, booking-at, with-today, counted}
+use Rattle.bank.specs.Book.{pick, Booking}
+use Rattle.bank.specs.Builders.{no-account, new-account, with-today, counted}
 use Rattle.bank.specs.Calls.{marked, none-there}
 use Rattle.bank.specs.Effects.{books, marks, adds, rates, turns, made}
 use Rattle.model.specs.Register.{Dated}
-use Rattle.model.specs.Snapshot.{rates-of, accounts-of}
 use Rattle.model.proofs.Register.{same-rates, no-rates, accounts-skip, accounts-put, accounts-snoc}
-use Rattle.columns.specs.Cells.{limits-in, Roomy, Sums, Account-added, Credited, Debited}
-use Rattle.columns.specs.Firsts.{first-of}
-use Rattle.columns.specs.Links.{Linkable, Chained, Begun-both, Linked-both}
+use Rattle.columns.specs.Cells.{limits-in, Account-added, Credited, Debited}
+use Rattle.columns.specs.Links.{Begun-both, Linked-both}
 use Rattle.columns.specs.RateRows.{rate-row, rate-rows, Rated, Rate-added}
-use Rattle.columns.specs.Rows.{row, rows, Sound, Appended, Marked}
+use Rattle.columns.specs.Rows.{row, rows, Appended, Marked}
 use Rattle.columns.specs.Spare.{Spare}
 use Rattle.columns.proofs.Chain.{chained-same, linkable-linked, chained-push, linkable-begun, chained-begun}
 use Rattle.columns.proofs.First.{length-first, getD-first, each-first}
 use Rattle.columns.proofs.Put.{appended-row, appended-last, marked-here, marked-other, marked-keeps}
 use Rattle.columns.proofs.Running.{sums-push, sums-drop, roomy-credited, roomy-debited, roomy-added, sums-added, limits-added, limits-same}
 use Rattle.columns.specs.declared.rates.Rates.{Rates}
-use Rattle.ledger.specs.Meaning.{bank, rates-set, limits, backs, most-done, with-done, bare-account}
+use Rattle.ledger.specs.Meaning.{bank, rates-set, backs, most-done, with-done, bare-account}
 use Rattle.ledger.specs.Whole.{Fit, Whole, Made, Becomes}
 use Rattle.ledger.specs.declared.Ledger.{Ledger}
-use Rattle.ledger.proofs.Bank.{accounts-length, bank-accounts, bank-count, bank-row, bank-today}
+use Rattle.ledger.proofs.Bank.{accounts-length, bank-accounts, bank-count, bank-today}
 use Rattle.ledger.proofs.Live.{none-to, none-from, none-ordered}
 
 -- how many were taken back, after one more booking and after one is taken back

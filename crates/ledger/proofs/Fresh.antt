@@ -1,19 +1,16 @@
 -- A ledger that was just laid out is the new bank.
-use mathlib.Core.Path.{_≡_, refl, sym, ap, _∙_}
+use mathlib.Core.Path.{_≡_, sym, ap, _∙_}
 use mathlib.Core.Bool.{Bool}
-use mathlib.Core.List.{List, [], _∷_}
-use Prim.Native.Nat.{ℕ, _+_, _≤_, _<_}
+use mathlib.Core.List.{[], _∷_}
+use Prim.Native.Nat.{ℕ}
 use native.Mathlib.Omega.{arith}
-use lib.ListN.{length, getD}
-use denote.Ref.{now}
 use Rattle.bank.specs.Book.{Booking}
 use Rattle.bank.specs.Calls.{Limits, new-bank}
 use Rattle.bank.specs.Sums.{tally}
-use Rattle.model.specs.Register.{Dated}
 use Rattle.model.specs.Snapshot.{rates-of, accounts-of}
 use Rattle.columns.specs.Cells.{limits-in, New-accounts}
 use Rattle.columns.specs.Firsts.{first-of}
-use Rattle.columns.specs.Links.{Linkable, Chained, New-chain, New-chains}
+use Rattle.columns.specs.Links.{Chained, New-chain, New-chains}
 use Rattle.columns.specs.RateRows.{rate-row, rate-rows, New-rates}
 use Rattle.columns.specs.Rows.{row, rows, New-bookings}
 use Rattle.columns.specs.Spare.{Spare}
@@ -21,7 +18,7 @@ use Rattle.columns.proofs.Chain.{latest-none}
 use Rattle.columns.proofs.First.{first-none}
 use Rattle.columns.proofs.Put.{tally-none}
 use Rattle.columns.specs.declared.chains.Chain.{Chain}
-use Rattle.ledger.specs.Meaning.{bank, rates-set, limits}
+use Rattle.ledger.specs.Meaning.{bank, rates-set}
 use Rattle.ledger.specs.Opened.{New}
 use Rattle.ledger.specs.Whole.{Whole}
 use Rattle.ledger.specs.declared.Ledger.{Ledger}

@@ -16,7 +16,6 @@
 // | | scratch: rate of the day | accounts |
 // | | rates: account, since, rate | rates, for each |
 // | | bookings: on, value, from, to, kind, back | bookings, for each |
-ghost use lib.ListN.{length};
 ghost use mathlib.Core.Path.{_≡_};
 ghost use Rattle.columns.specs.Sizes.{limits-of};
 ghost use Rattle.ledger.specs.Opened.{place-of, misfit, Opened};

@@ -3,7 +3,7 @@ use native.Mathlib.Omega.{arith}
 use Rattle.wire.specs.Booked.{booked}
 use Rattle.columns.proofs.Chain.{linkable-less}
 use Rattle.columns.proofs.Running.{live-le, order-le}
-use Rattle.ledger.proofs.Bank.{bank-accounts, bank-count, bank-today}
+use Rattle.ledger.proofs.Bank.{bank-count, bank-today}
 use Rattle.ledger.proofs.Live.{came-small, left-small, ordered-small}
 use Rattle.ledger.proofs.Effect.{fit-here, made-booked-at}
 use Rattle.ledger.proofs.Ledger.append.Needs as need
