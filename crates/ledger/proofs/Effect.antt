@@ -15,6 +15,7 @@ use Rattle.bank.specs.Builders.{no-account, new-account, with-today, counted}
 use Rattle.bank.specs.Calls.{marked, none-there}
 use Rattle.bank.specs.Effects.{books, marks, adds, rates, turns, made}
 use Rattle.model.specs.Register.{Dated}
+use Rattle.model.specs.Snapshot.{rates-of}
 use Rattle.model.proofs.Register.{same-rates, no-rates, accounts-skip, accounts-put, accounts-snoc}
 use Rattle.columns.specs.Cells.{limits-in, Account-added, Credited, Debited}
 use Rattle.columns.specs.Links.{Begun-both, Linked-both}
@@ -24,7 +25,7 @@ use Rattle.columns.specs.Spare.{Spare}
 use Rattle.columns.proofs.Chain.{chained-same, linkable-linked, chained-push, linkable-begun, chained-begun}
 use Rattle.columns.proofs.First.{length-first, getD-first, each-first}
 use Rattle.columns.proofs.Put.{appended-row, appended-last, marked-here, marked-other, marked-keeps}
-use Rattle.columns.proofs.Running.{sums-push, sums-drop, roomy-credited, roomy-debited, roomy-added, sums-added, limits-added, limits-same}
+use Rattle.columns.proofs.Running.{sums-push, sums-drop, roomy-summed, roomy-added, sums-added, limits-added, limits-same}
 use Rattle.columns.specs.declared.rates.Rates.{Rates}
 use Rattle.ledger.specs.Meaning.{bank, rates-set, backs, most-done, with-done, bare-account}
 use Rattle.ledger.specs.Whole.{Fit, Whole, Made, Becomes}
@@ -81,7 +82,7 @@ module _ (g h : Ledger) (b : Booking) (w : Whole g) (f : Fit (g .today) (g .acco
 
   booked-whole : Whole h
   booked-whole = record {
-    accounts = roomy-credited (g .accounts) (h .accounts) b (w .accounts) k;
+    accounts = roomy-summed (g .accounts) (h .accounts) _ _ _ _ _ (w .accounts) k;
     rates = rw (q, k .count) (w .rates);
     bookings = p .sound;
     scratch = rw (s, k .capacity) (w .scratch);
@@ -146,7 +147,7 @@ module _ (g h : Ledger) (i : ℕ) (b : Booking) (w : Whole g) (u : i < g .bookin
 
   marked-whole : Whole h
   marked-whole = record {
-    accounts = roomy-debited (g .accounts) (h .accounts) b (w .accounts) k;
+    accounts = roomy-summed (g .accounts) (h .accounts) _ _ _ _ _ (w .accounts) k;
     rates = rw (q, k .count) (w .rates);
     bookings = p .sound;
     scratch = rw (s, k .capacity) (w .scratch);
@@ -172,30 +173,38 @@ module _ (g h : Ledger) (i : ℕ) (b : Booking) (w : Whole g) (u : i < g .bookin
     unit = omega (arith, w .done, marked-most, d);
   }
 
+-- what is not accounts, bookings or chains may be another: a later day, other rates, another count of calls, other scratch
+module _ (g h : Ledger) (w : Whole g) (a : h .accounts ≡ g .accounts) (b : h .bookings ≡ g .bookings) (i : h .chains ≡ g .chains) where
+  like-most : most-done h ≡ 4294967296 + h .rates .count + g .bookings .count + backs (rows (g .bookings)) + h .today
+  like-most = omega (arith, ap (λ y. y .count) b, ap (λ y. backs (rows y)) b)
+
+  whole-like : Rated (h .rates) (g .accounts .count) → Spare (h .scratch) (g .accounts .capacity) → g .today ≤ h .today → h .today ≤ 3650 → h .done ≤ most-done h → Whole h
+  whole-like r s t u d = record {
+    accounts = rw a (w .accounts);
+    rates = rw a r;
+    bookings = rw b (w .bookings);
+    scratch = rw a s;
+    sums = rw (a, b) (w .sums);
+    fit = rw (a, b) (λ j v. fit-more (g .today) (g .accounts .count) (h .today) (g .accounts .count) (row (g .bookings) j) t (omega arith) (w .fit j v));
+    today = u;
+    done = d;
+    chains = rw (i, a, b) (w .chains);
+    incoming = rw (i, b, a) (w .incoming);
+    outgoing = rw (i, b, a) (w .outgoing);
+  }
+
 -- a later day
 module _ (g h : Ledger) (w : Whole g) (u : h .today ≤ 3650) (t : g .today ≤ h .today) (d : h .done ≡ g .done) (a : h .accounts ≡ g .accounts) (r : h .rates ≡ g .rates) (b : h .bookings ≡ g .bookings)
     (i : h .chains ≡ g .chains) (s : h .scratch ≡ g .scratch) where
   later-most : most-done h ≡ most-done g + (h .today - g .today)
-  later-most = omega (arith, t, ap (λ y. y .count) r, ap (λ y. y .count) b, ap (λ y. backs (rows y)) b)
+  later-most = omega (arith, t, like-most g h w a b i, ap (λ y. y .count) r)
 
   pub later : Becomes g h (with-today (bank g) (h .today))
   unfolding bank rates-set
   later = record {
     bank-is = cc;
     rates-are = ap rate-rows r;
-    whole = record {
-      accounts = rw a (w .accounts);
-      rates = rw (r, a) (w .rates);
-      bookings = rw b (w .bookings);
-      scratch = rw (s, a) (w .scratch);
-      sums = rw (a, b) (w .sums);
-      fit = rw (a, b) (λ j v. fit-more (g .today) (g .accounts .count) (h .today) (g .accounts .count) (row (g .bookings) j) t (omega arith) (w .fit j v));
-      today = u;
-      done = omega (arith, w .done, later-most, d);
-      chains = rw (i, a, b) (w .chains);
-      incoming = rw (i, b, a) (w .incoming);
-      outgoing = rw (i, b, a) (w .outgoing);
-    };
+    whole = whole-like g h w a b i (rw r (w .rates)) (rw s (w .scratch)) t u (omega (arith, w .done, later-most, d));
     limits-stay = cc;
   }
 
@@ -211,36 +220,31 @@ module _ (g h : Ledger) (w : Whole g) (u : h .today ≤ 3650) (t : g .today ≤ 
   }
 
 -- another number of calls is counted
-module _ (g h : Ledger) (k : ℕ) (w : Whole g) (u : k ≤ most-done g) (t : h .today ≡ g .today) (d : h .done ≡ k) (a : h .accounts ≡ g .accounts) (r : h .rates ≡ g .rates) (b : h .bookings ≡ g .bookings)
-    (i : h .chains ≡ g .chains) (s : h .scratch ≡ g .scratch) where
-  done-most : most-done h ≡ most-done g
-  done-most = omega (arith, t, ap (λ y. y .count) r, ap (λ y. y .count) b, ap (λ y. backs (rows y)) b)
-
-  pub done-set : Becomes g h (with-done (bank g) k)
-  unfolding bank rates-set
-  done-set = record {
-    bank-is = cc;
-    rates-are = ap rate-rows r;
-    whole = record {
-      accounts = rw a (w .accounts);
-      rates = rw (r, a) (w .rates);
-      bookings = rw b (w .bookings);
-      scratch = rw (s, a) (w .scratch);
-      sums = rw (a, b) (w .sums);
-      fit = rw (a, b, t) (w .fit);
-      today = rw t (w .today);
-      done = omega (arith, u, done-most, d);
-      chains = rw (i, a, b) (w .chains);
-      incoming = rw (i, b, a) (w .incoming);
-      outgoing = rw (i, b, a) (w .outgoing);
-    };
-    limits-stay = cc;
-  }
+pub done-set : (g h : Ledger) (k : ℕ) → Whole g → k ≤ most-done g → h .today ≡ g .today → h .done ≡ k → h .accounts ≡ g .accounts → h .rates ≡ g .rates → h .bookings ≡ g .bookings → h .chains ≡ g .chains →
+    h .scratch ≡ g .scratch → Becomes g h (with-done (bank g) k)
+unfolding bank rates-set
+done-set g h k w u t d a r b i s = record {
+  bank-is = cc;
+  rates-are = ap rate-rows r;
+  whole = whole-like g h w a b i (rw r (w .rates)) (rw s (w .scratch)) (omega (arith, t)) (omega (arith, t, w .today)) (omega (arith, u, t, like-most g h w a b i, ap (λ y. y .count) r, d));
+  limits-stay = cc;
+}
 
 -- a call is counted
-pub called : (g h : Ledger) → g .done < most-done g → Becomes g h (with-done (bank g) (g .done + 1)) → Becomes g h (counted (bank g))
+pub called : (g h : Ledger) → Becomes g h (with-done (bank g) (g .done + 1)) → Becomes g h (counted (bank g))
 unfolding bank
-called g h u e = subst (λ (k : ℕ). Becomes g h (with-done (bank g) k)) (add-one (g .done)) e
+called g h e = subst (λ (k : ℕ). Becomes g h (with-done (bank g) k)) (add-one (g .done)) e
+
+-- scratch cells mean nothing: whoever writes them leaves the book as it was
+pub scratch-free : (g h : Ledger) → Whole g → Spare (h .scratch) (g .accounts .capacity) → h .today ≡ g .today → h .done ≡ g .done → h .accounts ≡ g .accounts → h .rates ≡ g .rates → h .bookings ≡ g .bookings →
+    h .chains ≡ g .chains → Becomes g h (bank g)
+unfolding bank rates-set
+scratch-free g h w x t d a r b i = record {
+  bank-is = cc;
+  rates-are = ap rate-rows r;
+  whole = whole-like g h w a b i (rw r (w .rates)) x (omega (arith, t)) (omega (arith, t, w .today)) (omega (arith, w .done, t, like-most g h w a b i, ap (λ y. y .count) r, d));
+  limits-stay = cc;
+}
 
 rated-more : (r : Rates) (m n : ℕ) → m ≤ n → Rated r m → Rated r n
 rated-more r m n h o = record { count = o .count; capacity = o .capacity; account = o .account; since = o .since; rate = o .rate; owners = λ i u. omega (arith, o .owners i u) }
@@ -257,128 +261,106 @@ module _ (g h : Ledger) (x : Dated) (w : Whole g) (u : x .account < g .accounts 
       cc
 
   rated-most : most-done h ≡ suc (most-done g)
-  rated-most = omega (arith, t, f .count, ap (λ y. y .count) b, ap (λ y. backs (rows y)) b)
+  rated-most = omega (arith, t, f .count, like-most g h w a b i)
 
   pub made-rated : Made g h (rates (x .account) (record { since = x .since; rate = x .rate }))
   unfolding rates-set
   made-rated = record {
     bank-is = rated-bank;
     rates-are = f .rows;
-    whole = record {
-      accounts = rw a (w .accounts);
-      rates = rw a (f .rated (g .accounts .count) (w .rates) u);
-      bookings = rw b (w .bookings);
-      scratch = rw (s, a) (w .scratch);
-      sums = rw (a, b) (w .sums);
-      fit = rw (a, b, t) (w .fit);
-      today = rw t (w .today);
-      done = omega (arith, w .done, rated-most, d);
-      chains = rw (i, a, b) (w .chains);
-      incoming = rw (i, b, a) (w .incoming);
-      outgoing = rw (i, b, a) (w .outgoing);
-    };
+    whole = whole-like g h w a b i (f .rated (g .accounts .count) (w .rates) u) (rw s (w .scratch)) (omega (arith, t)) (omega (arith, t, w .today)) (omega (arith, w .done, rated-most, d));
     limits-stay = let c = f .capacity in cc;
     unit = omega (arith, w .done, rated-most, d);
   }
 
--- one more account, with a rate
-module _ (g h : Ledger) (l since r : ℕ) (w : Whole g) (small : l ≤ 100000000000) (u : g .accounts .count < g .accounts .capacity) (t : h .today ≡ g .today) (d : h .done ≡ g .done)
-    (b : h .bookings ≡ g .bookings) (s : h .scratch ≡ g .scratch) (e : Account-added (g .accounts) (h .accounts) l)
-    (f : Rate-added (g .rates) (h .rates) (record { account = g .accounts .count; since = since; rate = r }))
-    (i : Begun-both (g .chains) (h .chains) (g .accounts .count)) where
-  added-bank : bank h ≡ made (bank g) (adds (new-account since l r))
-  unfolding bank made
-  added-bank =
-      let n : ℕ = g .accounts .count in
-      let x : Dated = record { account = n; since = since; rate = r } in
-      let ms : List ℕ = limits-in (g .accounts) in
-      let rs : List Dated = rate-rows (g .rates) in
-      let len : length ms ≡ n = length-first (λ c. getD (now (g .accounts .limit)) c 0) n in
-      let e1 = limits-added (g .accounts) (h .accounts) l (w .accounts) u e in
-      let e2 = f .rows in
-      let e3 = accounts-snoc 0 ms l (rs ++ (x ∷ [])) n (omega (arith, len)) in
-      let e4 = accounts-skip 0 ms rs x (λ k p q z. omega (arith, len, z, q)) in
-      let e5 = same-rates n rs x refl in
-      let e6 = no-rates n rs (each-first (λ y. y .account < n) (rate-row (g .rates)) (g .rates .count) (w .rates .owners)) in
-      cc
-
-  added-most : most-done h ≡ suc (most-done g)
-  added-most = omega (arith, t, f .count, ap (λ y. y .count) b, ap (λ y. backs (rows y)) b)
-
-  pub made-added : Made g h (adds (new-account since l r))
-  unfolding rates-set bank
-  made-added =
+-- one more account
+module _ (g h : Ledger) (l : ℕ) (w : Whole g) (small : l ≤ 100000000000) (u : g .accounts .count < g .accounts .capacity) (t : h .today ≡ g .today) (d : h .done ≡ g .done)
+    (b : h .bookings ≡ g .bookings) (s : h .scratch ≡ g .scratch) (e : Account-added (g .accounts) (h .accounts) l) (i : Begun-both (g .chains) (h .chains) (g .accounts .count)) where
+  whole-added : Rated (h .rates) (g .accounts .count + 1) → g .rates .count ≤ h .rates .count → Whole h
+  whole-added r q =
       let n : ℕ = g .accounts .count in
       record {
-        bank-is = added-bank;
-        rates-are =
-            f .rows ∙ ap (λ m. rate-rows (g .rates) ++ (record { account = m; since = since; rate = r } ∷ []))
-            (sym (accounts-length 0 (limits-in (g .accounts)) (rate-rows (g .rates)) ∙ length-first (λ c. getD (now (g .accounts .limit)) c 0) n));
-        whole = record {
-          accounts = roomy-added (g .accounts) (h .accounts) l (w .accounts) u small e;
-          rates = rw (e .count) (f .rated (n + 1) (rated-more (g .rates) n (n + 1) (omega arith) (w .rates)) (omega arith));
-          bookings = rw b (w .bookings);
-          scratch = rw (s, e .capacity) (w .scratch);
-          sums = rw b (sums-added (g .accounts) (h .accounts) l (rows (g .bookings)) (w .accounts) u e (none-to g w) (none-from g w) (none-ordered g w) (w .sums));
-          fit = rw (b, e .count, t) (λ j v. fit-more (g .today) n (g .today) (n + 1) (row (g .bookings) j) (omega arith) (omega arith) (w .fit j v));
-          today = rw t (w .today);
-          done = omega (arith, w .done, added-most, d);
-          chains = rw (b, e .capacity) (linkable-begun (g .chains) (h .chains) n _ _ (w .chains) i);
-          incoming = rw (b, e .count) (chained-begun (g .chains .incoming) (h .chains .incoming) (λ j. row (g .bookings) j .to) (g .bookings .count) n (omega (arith, w .chains .heads-in)) (w .incoming) (i .incoming) (λ j v. w .fit j v .to));
-          outgoing = rw (b, e .count) (chained-begun (g .chains .outgoing) (h .chains .outgoing) (λ j. row (g .bookings) j .from) (g .bookings .count) n (omega (arith, w .chains .heads-out)) (w .outgoing) (i .outgoing) (λ j v. w .fit j v .from));
-        };
-        limits-stay = let a = e .capacity in let c = f .capacity in cc;
-        unit = omega (arith, w .done, added-most, d);
+        accounts = roomy-added (g .accounts) (h .accounts) l (w .accounts) u small e;
+        rates = rw (e .count) r;
+        bookings = rw b (w .bookings);
+        scratch = rw (s, e .capacity) (w .scratch);
+        sums = rw b (sums-added (g .accounts) (h .accounts) l (rows (g .bookings)) (w .accounts) u e (none-to g w) (none-from g w) (none-ordered g w) (w .sums));
+        fit = rw (b, e .count, t) (λ j v. fit-more (g .today) n (g .today) (n + 1) (row (g .bookings) j) (omega arith) (omega arith) (w .fit j v));
+        today = rw t (w .today);
+        done = omega (arith, w .done, t, d, q, ap (λ y. y .count) b, ap (λ y. backs (rows y)) b);
+        chains = rw (b, e .capacity) (linkable-begun (g .chains) (h .chains) n _ _ (w .chains) i);
+        incoming = rw (b, e .count) (chained-begun (g .chains .incoming) (h .chains .incoming) (λ j. row (g .bookings) j .to) (g .bookings .count) n (omega (arith, w .chains .heads-in)) (w .incoming) (i .incoming) (λ j v. w .fit j v .to));
+        outgoing = rw (b, e .count) (chained-begun (g .chains .outgoing) (h .chains .outgoing) (λ j. row (g .bookings) j .from) (g .bookings .count) n (omega (arith, w .chains .heads-out)) (w .outgoing) (i .outgoing) (λ j v. w .fit j v .from));
       }
 
--- one more account, without a rate
-module _ (g h : Ledger) (n l : ℕ) (w : Whole g) (small : l ≤ 100000000000) (u : g .accounts .count < g .accounts .capacity) (t : h .today ≡ g .today) (d : h .done ≡ g .done)
-    (b : h .bookings ≡ g .bookings) (r : h .rates ≡ g .rates) (s : h .scratch ≡ g .scratch) (e : Account-added (g .accounts) (h .accounts) l) (q : n ≡ g .accounts .count)
-    (i : Begun-both (g .chains) (h .chains) n) where
-  bare-bank : bank h ≡ made (bank g) (adds (bare-account l))
-  unfolding bank made
-  bare-bank =
-      let m : ℕ = g .accounts .count in
-      let ms : List ℕ = limits-in (g .accounts) in
-      let rs : List Dated = rate-rows (g .rates) in
-      let e1 = limits-added (g .accounts) (h .accounts) l (w .accounts) u e in
-      let e2 = accounts-snoc 0 ms l rs m (omega (arith, length-first (λ c. getD (now (g .accounts .limit)) c 0) m)) in
-      let e3 = no-rates m rs (each-first (λ y. y .account < m) (rate-row (g .rates)) (g .rates .count) (w .rates .owners)) in
-      cc
+  length-limits : length (limits-in (g .accounts)) ≡ g .accounts .count
+  length-limits = length-first (λ c. getD (now (g .accounts .limit)) c 0) (g .accounts .count)
 
-  pub bare : Becomes g h (made (bank g) (adds (bare-account l)))
-  unfolding rates-set
-  bare =
-      let m : ℕ = g .accounts .count in
-      let i′ = subst (Begun-both (g .chains) (h .chains)) q i in
-      record {
-        bank-is = bare-bank;
-        rates-are = ap rate-rows r;
-        whole = record {
-          accounts = roomy-added (g .accounts) (h .accounts) l (w .accounts) u small e;
-          rates = rw (e .count, r) (rated-more (g .rates) m (m + 1) (omega arith) (w .rates));
-          bookings = rw b (w .bookings);
-          scratch = rw (s, e .capacity) (w .scratch);
-          sums = rw b (sums-added (g .accounts) (h .accounts) l (rows (g .bookings)) (w .accounts) u e (none-to g w) (none-from g w) (none-ordered g w) (w .sums));
-          fit = rw (b, e .count, t) (λ j v. fit-more (g .today) m (g .today) (m + 1) (row (g .bookings) j) (omega arith) (omega arith) (w .fit j v));
-          today = rw t (w .today);
-          done = omega (arith, w .done, t, d, ap (λ y. y .count) r, ap (λ y. y .count) b, ap (λ y. backs (rows y)) b);
-          chains = rw (b, e .capacity) (linkable-begun (g .chains) (h .chains) m _ _ (w .chains) i′);
-          incoming = rw (b, e .count) (chained-begun (g .chains .incoming) (h .chains .incoming) (λ j. row (g .bookings) j .to) (g .bookings .count) m (omega (arith, w .chains .heads-in)) (w .incoming) (i′ .incoming) (λ j v. w .fit j v .to));
-          outgoing = rw (b, e .count) (chained-begun (g .chains .outgoing) (h .chains .outgoing) (λ j. row (g .bookings) j .from) (g .bookings .count) m (omega (arith, w .chains .heads-out)) (w .outgoing) (i′ .outgoing) (λ j v. w .fit j v .from));
-        };
-        limits-stay = let a = e .capacity in cc;
-      }
+  -- it has no rate before
+  unrated : rates-of (g .accounts .count) (rate-rows (g .rates)) ≡ []
+  unrated = no-rates (g .accounts .count) (rate-rows (g .rates)) (each-first (λ y. y .account < g .accounts .count) (rate-row (g .rates)) (g .rates .count) (w .rates .owners))
+
+  -- without a rate
+  module _ (r : h .rates ≡ g .rates) where
+    bare-bank : bank h ≡ made (bank g) (adds (bare-account l))
+    unfolding bank made
+    bare-bank =
+        let e1 = limits-added (g .accounts) (h .accounts) l (w .accounts) u e in
+        let e2 = accounts-snoc 0 (limits-in (g .accounts)) l (rate-rows (g .rates)) (g .accounts .count) (omega (arith, length-limits)) in
+        let e3 = unrated in
+        cc
+
+    pub bare : Becomes g h (made (bank g) (adds (bare-account l)))
+    unfolding rates-set
+    bare = record {
+      bank-is = bare-bank;
+      rates-are = ap rate-rows r;
+      whole = whole-added (rw r (rated-more (g .rates) (g .accounts .count) (g .accounts .count + 1) (omega arith) (w .rates))) (omega (arith, ap (λ y. y .count) r));
+      limits-stay = let a = e .capacity in cc;
+    }
+
+  -- with a rate
+  module _ (since r : ℕ) (f : Rate-added (g .rates) (h .rates) (record { account = g .accounts .count; since = since; rate = r })) where
+    added-bank : bank h ≡ made (bank g) (adds (new-account since l r))
+    unfolding bank made
+    added-bank =
+        let n : ℕ = g .accounts .count in
+        let x : Dated = record { account = n; since = since; rate = r } in
+        let ms : List ℕ = limits-in (g .accounts) in
+        let rs : List Dated = rate-rows (g .rates) in
+        let e1 = limits-added (g .accounts) (h .accounts) l (w .accounts) u e in
+        let e2 = f .rows in
+        let e3 = accounts-snoc 0 ms l (rs ++ (x ∷ [])) n (omega (arith, length-limits)) in
+        let e4 = accounts-skip 0 ms rs x (λ k p q z. omega (arith, length-limits, z, q)) in
+        let e5 = same-rates n rs x refl in
+        let e6 = unrated in
+        cc
+
+    pub made-added : Made g h (adds (new-account since l r))
+    unfolding rates-set bank
+    made-added = record {
+      bank-is = added-bank;
+      rates-are =
+          f .rows ∙ ap (λ m. rate-rows (g .rates) ++ (record { account = m; since = since; rate = r } ∷ []))
+          (sym (accounts-length 0 (limits-in (g .accounts)) (rate-rows (g .rates)) ∙ length-limits));
+      whole = whole-added (f .rated (g .accounts .count + 1) (rated-more (g .rates) (g .accounts .count) (g .accounts .count + 1) (omega arith) (w .rates)) (omega arith)) (omega (arith, f .count));
+      limits-stay = let a = e .capacity in let c = f .capacity in cc;
+      unit = omega (arith, w .done, t, f .count, d, ap (λ y. y .count) b, ap (λ y. backs (rows y)) b);
+    }
 
 -- the same, by the number that the account gets
-pub made-added-at : (g h : Ledger) (n l r : ℕ) (w : Whole g) (small : l ≤ 100000000000) (u : g .accounts .count < g .accounts .capacity) (t : h .today ≡ g .today) (d : h .done ≡ g .done)
-    (b : h .bookings ≡ g .bookings) (s : h .scratch ≡ g .scratch) (e : Account-added (g .accounts) (h .accounts) l) → n ≡ g .accounts .count →
-    Rate-added (g .rates) (h .rates) (record { account = n; since = g .today; rate = r }) → Begun-both (g .chains) (h .chains) n →
-    Made g h (adds (new-account (bank g .today) l r))
-made-added-at g h n l r w small u t d b s e q f i =
-    subst (λ (m : ℕ). Made g h (adds (new-account m l r))) (sym (bank-today g))
-    (made-added g h l (g .today) r w small u t d b s e (subst (λ (m : ℕ). Rate-added (g .rates) (h .rates) (record { account = m; since = g .today; rate = r })) q f)
-    (subst (Begun-both (g .chains) (h .chains)) q i))
+module _ (g h : Ledger) (n l : ℕ) (w : Whole g) (small : l ≤ 100000000000) (u : g .accounts .count < g .accounts .capacity) (t : h .today ≡ g .today) (d : h .done ≡ g .done)
+    (b : h .bookings ≡ g .bookings) (s : h .scratch ≡ g .scratch) (e : Account-added (g .accounts) (h .accounts) l) (q : n ≡ g .accounts .count) (i : Begun-both (g .chains) (h .chains) n) where
+  begun : Begun-both (g .chains) (h .chains) (g .accounts .count)
+  begun = subst (Begun-both (g .chains) (h .chains)) q i
+
+  pub bare-at : h .rates ≡ g .rates → Becomes g h (made (bank g) (adds (bare-account l)))
+  bare-at r = bare g h l w small u t d b s e begun r
+
+  pub made-added-at : (r : ℕ) → Rate-added (g .rates) (h .rates) (record { account = n; since = g .today; rate = r }) → Made g h (adds (new-account (bank g .today) l r))
+  made-added-at r f =
+      subst (λ (m : ℕ). Made g h (adds (new-account m l r))) (sym (bank-today g))
+      (made-added g h l w small u t d b s e begun (g .today) r (subst (λ (m : ℕ). Rate-added (g .rates) (h .rates) (record { account = m; since = g .today; rate = r })) q f))
 
 -- and one more booking, by its number and by what the caller knows of the bank
 pub made-booked-at : (g h : Ledger) (n : ℕ) (b : Booking) (w : Whole g) → Fit (bank g .today) (length (bank g .accounts)) b → length (bank g .bookings) < g .bookings .capacity → h .today ≡ g .today → h .done ≡ g .done →
@@ -386,25 +368,3 @@ pub made-booked-at : (g h : Ledger) (n : ℕ) (b : Booking) (w : Whole g) → Fi
     h .rates ≡ g .rates → h .scratch ≡ g .scratch → Made g h (books b)
 made-booked-at g h n b w f v t d q k p l r s =
     made-booked g h b w (fit-here g b f) (omega (arith, bank-count g)) t d k p (subst (Linked-both (g .chains) (h .chains) b) q l) r s
-
--- scratch cells mean nothing: whoever writes them leaves the book as it was
-pub scratch-free : (g h : Ledger) → Whole g → Spare (h .scratch) (g .accounts .capacity) → h .accounts ≡ g .accounts → h .rates ≡ g .rates → h .bookings ≡ g .bookings → h .chains ≡ g .chains → h .today ≡ g .today → h .done ≡ g .done → Becomes g h (bank g)
-unfolding bank rates-set
-scratch-free g h w x a r b i t d = record {
-  bank-is = cc;
-  rates-are = ap rate-rows r;
-  whole = record {
-    accounts = rw a (w .accounts);
-    rates = rw (r, a) (w .rates);
-    bookings = rw b (w .bookings);
-    scratch = rw a x;
-    sums = rw (a, b) (w .sums);
-    fit = rw (a, b, t) (w .fit);
-    today = rw t (w .today);
-    done = omega (arith, w .done, d, t, ap (λ y. y .count) r, ap (λ y. y .count) b, ap (λ y. backs (rows y)) b);
-    chains = rw (i, a, b) (w .chains);
-    incoming = rw (i, b, a) (w .incoming);
-    outgoing = rw (i, b, a) (w .outgoing);
-  };
-  limits-stay = cc;
-}

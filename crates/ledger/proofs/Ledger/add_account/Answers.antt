@@ -23,6 +23,6 @@ returns c =
     let g = c .args .self .now in
     record {
       number = c .count-number .ensures ∙ sym (bank-accounts g);
-      made = made-added-at g _ (c .count-number .result) (c .args .limit) (c .args .rate) (c .pre .whole) (c .pre .small) (omega (arith, c .pre .account, bank-accounts g)) refl refl refl refl
-          (c .append .ensures) (c .count-number .ensures) (c .append-2 .ensures) (c .begin .ensures);
+      made = made-added-at g _ (c .count-number .result) (c .args .limit) (c .pre .whole) (c .pre .small) (omega (arith, c .pre .account, bank-accounts g)) refl refl refl refl (c .append .ensures)
+          (c .count-number .ensures) (c .begin .ensures) (c .args .rate) (c .append-2 .ensures);
     }

@@ -2,7 +2,7 @@ use mathlib.Core.Path.{refl}
 use native.Mathlib.Omega.{arith}
 use Rattle.columns.proofs.Chain.{linkable-less}
 use Rattle.ledger.proofs.Bank.{bank-accounts}
-use Rattle.ledger.proofs.Effect.{bare}
+use Rattle.ledger.proofs.Effect.{bare-at}
 use Rattle.ledger.proofs.Ledger.restore_account.Needs as need
 
 pub append-requires : need.append-requires
@@ -16,5 +16,5 @@ begin-requires c κs =
 pub returns : need.returns
 returns c =
     let g = c .args .self .now in
-    bare g _ (c .count-number .result) (c .args .limit) (c .pre .whole) (c .pre .small) (omega (arith, c .pre .account, bank-accounts g)) refl refl refl refl refl
-    (c .append .ensures) (c .count-number .ensures) (c .begin .ensures)
+    bare-at g _ (c .count-number .result) (c .args .limit) (c .pre .whole) (c .pre .small) (omega (arith, c .pre .account, bank-accounts g)) refl refl refl refl (c .append .ensures)
+    (c .count-number .ensures) (c .begin .ensures) refl
