@@ -17,7 +17,7 @@ ghost use lib.ListN.{length, drop};
 ghost use Rattle.device.specs.Rows.{bytes-of, number-of, with-bytes};
 ghost use Rattle.model.specs.JournalBlock.{head-in, same-book, journal-block};
 ghost use Rattle.columns.specs.Sizes.{limits-of};
-ghost use Rattle.journal.specs.Headers.{head-of};
+ghost use Rattle.journal.specs.Headers.{head-of, rows-found};
 ghost use Rattle.journal.specs.Recovery.{Says};
 use blocks::BLOCK;
 use columns::limits::Limits;
@@ -38,6 +38,9 @@ const EPOCH_AT: usize = 8;
 const BOOKINGS_AT: usize = 12;
 
 const RATES_AT: usize = 16;
+
+// Rows in a block.
+const ROWS: u16 = 24;
 
 // What a header says.
 #[derive(Clone, Copy)]
@@ -92,6 +95,20 @@ impl Header {
             && self.accounts as u32 == limits.accounts
             && self.rates as u32 == limits.rates
             && self.bookings == limits.bookings
+    }
+
+    // How many rows its block has for a journal of this epoch, which a block can join or not; one of an earlier epoch counts as empty. None where it cannot be of the journal: it
+    // has rows of a later epoch, too many, or some behind a block that is not full.
+    pub(crate) fn rows_for(self, epoch: u32, joins: bool) -> Option<usize>
+        ensures { λ r. ⌜ r ≡ rows-found (head-of self) epoch joins ⌝ }
+    {
+        if self.rows == 0 || self.epoch < epoch {
+            return Some(0);
+        }
+        if self.epoch > epoch || self.rows > ROWS || !joins {
+            return None;
+        }
+        Some(self.rows as usize)
     }
 }
 

@@ -12,7 +12,7 @@ ghost use Rattle.bank.specs.Promise.{allowed};
 ghost use Rattle.model.specs.JournalBlock.{stored};
 ghost use Rattle.columns.specs.Sizes.{limits-of};
 ghost use Rattle.wire.specs.Meaning.{meant};
-ghost use Rattle.journal.specs.Tail.{Sound, Roomy, Appended, Stands};
+ghost use Rattle.journal.specs.Tail.{with-row, Sound, Roomy, Appended, Stands};
 ghost use Rattle.journal.specs.Recovery.{accepts-next, next-rows, Took, Row-of};
 use crate::header::read_header;
 use crate::header::write_header;
@@ -29,6 +29,17 @@ const HEADER: usize = 32;
 const ROW: usize = 20;
 
 const ROWS: u64 = 24;
+
+// Puts a row behind the first n of a block.
+fn put_row(block: &mut [u8], n: u64, call: Call)
+    requires whole { ⌜ length (now block) ≡ 512 ⌝ }
+    requires room { ⌜ n < 24 ⌝ }
+    requires kept { ⌜ stored (meant call) ≡ true ⌝ }
+    ensures { λ _. ⌜ now (block .exit) ≡ with-row (now (block .entry)) n (meant call) ⌝ }
+{
+    write_rows(block, n + 1);
+    write_row(block, HEADER + ROW * n as usize, call);
+}
 
 // The journal of a book, whose block is lent.
 #[derive(Drop)]
@@ -99,8 +110,7 @@ impl Journal<'_> {
         self.make_room();
         let n = self.count % ROWS;
         let k = self.count / ROWS;
-        write_rows(self.block, n + 1);
-        write_row(self.block, HEADER + ROW * n as usize, call);
+        put_row(self.block, n, call);
         self.count += 1;
         k
     }
@@ -140,22 +150,8 @@ impl Journal<'_> {
         if !header.is_of(self.format, self.limits) {
             return None;
         }
-        if header.rows == 0 {
-            return Some(0);
-        }
-        if header.epoch < self.epoch {
-            return Some(0);
-        }
-        if header.epoch > self.epoch {
-            return None;
-        }
-        if header.rows as u64 > ROWS {
-            return None;
-        }
-        if self.count != ROWS * self.read as u64 {
-            return None;
-        }
-        Some(header.rows as usize)
+        let joins = self.count == ROWS * self.read as u64;
+        header.rows_for(self.epoch, joins)
     }
 
     // Takes the block that was asked for, and says how many rows it has; none where it cannot be a block of this journal.
