@@ -40,7 +40,7 @@ const BOOKINGS_AT: usize = 12;
 const RATES_AT: usize = 16;
 
 // Rows in a block.
-const ROWS: u16 = 24;
+pub(crate) const ROWS: u64 = 24;
 
 // What a header says.
 #[derive(Clone, Copy)]
@@ -105,7 +105,7 @@ impl Header {
         if self.rows == 0 || self.epoch < epoch {
             return Some(0);
         }
-        if self.epoch > epoch || self.rows > ROWS || !joins {
+        if self.epoch > epoch || self.rows as u64 > ROWS || !joins {
             return None;
         }
         Some(self.rows as usize)
@@ -130,7 +130,7 @@ pub fn limits_in(block: &[u8], format: u16) -> Option<Limits>
     })
 }
 
-// Makes a block of zeros one of a journal with no rows yet.
+// Begins a block of a journal: its header, with no rows yet, and zeros.
 pub(crate) fn write_header(block: &mut [u8], format: u16, limits: Limits, epoch: u32)
     requires { ⌜ length (now block) ≡ 512 ⌝ }
     ensures { λ _. ⌜ now (block .exit) ≡ journal-block format (limits-of limits) epoch [] ⌝ }

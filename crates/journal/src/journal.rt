@@ -14,6 +14,7 @@ ghost use Rattle.columns.specs.Sizes.{limits-of};
 ghost use Rattle.wire.specs.Meaning.{meant};
 ghost use Rattle.journal.specs.Tail.{with-row, Sound, Roomy, Appended, Stands};
 ghost use Rattle.journal.specs.Recovery.{accepts-next, next-rows, Took, Row-of};
+use crate::header::ROWS;
 use crate::header::read_header;
 use crate::header::write_header;
 use crate::header::write_rows;
@@ -23,12 +24,10 @@ use wire::call::Call;
 use wire::row::read_row;
 use wire::row::write_row;
 
-// Bytes of a header and of a row, and rows in a block.
+// Bytes of a header and of a row.
 const HEADER: usize = 32;
 
 const ROW: usize = 20;
-
-const ROWS: u64 = 24;
 
 // Puts a row behind the first n of a block.
 fn put_row(block: &mut [u8], n: u64, call: Call)
@@ -41,7 +40,8 @@ fn put_row(block: &mut [u8], n: u64, call: Call)
     write_row(block, HEADER + ROW * n as usize, call);
 }
 
-// The journal of a book, whose block is lent.
+// The journal of a book: the lent block that is written next; what each of its blocks says of the book; how many blocks there are, and how many of them recovery has read; and how many
+// calls it has.
 #[derive(Drop)]
 pub struct Journal<'a> {
     block: &'a mut [u8],
