@@ -1,3 +1,4 @@
+pub mod Beginning
 pub mod Serving
 pub mod Orders
 pub mod Openings

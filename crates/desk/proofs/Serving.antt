@@ -69,9 +69,10 @@ module _ (g : Ledger) (k : Kept g) (c : Call) where
       after = (let p = bank-after in let r = rates-after in let z = register-taken (limits g) (register g) c (e .by-none) in cc)
 
       reached : Reached-register (limits g) (register h)
-      reached =
-          (k .reached .0 ++ (c ∷ []),
-          ran-snoc (register-book (limits g)) new-register (k .reached .0) c ∙ ap (λ (r : Register). register-after (limits g) r c) (k .reached .1) ∙ sym after)
+      reached = (
+        k .reached .0 ++ (c ∷ []),
+        ran-snoc (register-book (limits g)) new-register (k .reached .0) c ∙ ap (λ (r : Register). register-after (limits g) r c) (k .reached .1) ∙ sym after,
+      )
 
 -- a question of the first stage, by the code's call
 pub asked-first : (g : Ledger) (d c : Call) (a : Answer) → d ≡ c → (plain c && asks c) ≡ true → Asked g c a → Asked-first g d a

@@ -16,6 +16,7 @@ use Rattle.wire.specs.declared.answer.Answer.{Answer as Reply}
 use Rattle.ledger.specs.Meaning.{bank, register, limits}
 use Rattle.ledger.specs.Whole.{Whole}
 use Rattle.ledger.specs.declared.Ledger.{Ledger}
+use Rattle.ledger.specs.declared.opening.Refused.{Refused}
 use Rattle.desk.specs.Refusals.{turned-away}
 use Rattle.desk.specs.declared.refusal.Refusal.{Refusal}
 use Rattle.desk.specs.declared.Outcome.{Outcome}
@@ -25,6 +26,11 @@ pub record Kept (g : Ledger) : Type 0 where
   pub whole : Whole g
   pub allows : allowed (limits g) ≡ true
   pub reached : Reached-register (limits g) (register g)
+
+-- where a book was opened, calls can be taken on it
+abbrev pub Opened-kept : Result Ledger Refused → Type 0
+Opened-kept (Ok g) = Kept g
+Opened-kept (Err e) = Unit {0}
 
 -- what is answered: to a call that is taken, and to one that is turned away
 abbrev pub reply : Result Reply Refusal → Answer

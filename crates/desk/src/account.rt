@@ -1,10 +1,13 @@
 // Accounts: opening one with a limit and a rate, and setting a rate.
 ghost use mathlib.Core.Path.{_≡_};
-ghost use mathlib.Core.Bool.{true, false};
-ghost use lib.Dec.{leb};
+ghost use mathlib.Core.Bool.{true, false, _&&_};
+ghost use lib.Dec.{ltb, leb};
+ghost use lib.ListN.{length};
 ghost use Prim.Native.Nat.{_<_, _≤_};
 ghost use Rattle.std.specs.declared.option.Option.the-variants.{Some, None};
-ghost use Rattle.bank.specs.Calls.{opens};
+ghost use Rattle.bank.specs.Calls.{opens, rates-in};
+ghost use Rattle.ledger.specs.Meaning.{bank, limits};
+ghost use Rattle.ledger.specs.Whole.{Whole};
 ghost use Rattle.desk.specs.Desk.{Kept, Served, reply, took};
 use crate::MOST;
 use crate::refusal::Refusal;
@@ -29,6 +32,18 @@ fn rate_of(rate: u64) -> Option<u32>
     }
 }
 
+// A rate for which there is room, and an account more.
+fn enterable(ledger: &Ledger, rate: u32) -> Option<u32>
+    requires { ⌜ Whole (now ledger) ⌝ }
+    ensures { λ r. ⌜ elim r [ Some x ↦ (x ≡ rate) × ((ltb (length (bank (now (ledger .entry)) .accounts)) (limits (now (ledger .entry)) .accounts) && ltb (rates-in (bank (now (ledger .entry)) .accounts)) (limits (now (ledger .entry)) .rates)) ≡ true) | None ↦ (ltb (length (bank (now (ledger .entry)) .accounts)) (limits (now (ledger .entry)) .accounts) && ltb (rates-in (bank (now (ledger .entry)) .accounts)) (limits (now (ledger .entry)) .rates)) ≡ false ] ⌝ }
+{
+    if ledger.has_room_for_account() {
+        Some(rate)
+    } else {
+        None
+    }
+}
+
 // Opens an account with a limit and a rate from today on.
 pub(crate) fn open(ledger: &mut Ledger, limit: u64, rate: u64) -> Result<Answer, Refusal>
     requires { ⌜ Kept (now ledger) ⌝ }
@@ -40,9 +55,9 @@ pub(crate) fn open(ledger: &mut Ledger, limit: u64, rate: u64) -> Result<Answer,
     let Some(rate) = rate_of(rate) else {
         return Err(Refusal::Rate);
     };
-    if !ledger.has_room_for_account() {
+    let Some(rate) = enterable(ledger, rate) else {
         return Err(Refusal::NoRoom);
-    }
+    };
     let number = ledger.add_account(limit, rate);
     ledger.count_call();
     Ok(Answer::Number(number as u64))

@@ -14,6 +14,7 @@ use wire::answer::Answer;
 use wire::call::Call;
 
 mod account;
+pub mod opening;
 mod order;
 mod question;
 pub mod refusal;

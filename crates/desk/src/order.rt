@@ -55,7 +55,7 @@ fn receivable(ledger: &Ledger, payee: u32, amount: u64) -> Option<u64>
     requires small { ⌜ amount ≤ 100000000000 ⌝ }
     ensures { λ r. ⌜ elim r [ Some x ↦ (x ≡ amount) × ((ltb (length (bank (now (ledger .entry)) .bookings)) (limits (now (ledger .entry)) .bookings) && leb (ordered payee (bank (now (ledger .entry)) .bookings) + amount) 100000000000) ≡ true) | None ↦ (ltb (length (bank (now (ledger .entry)) .bookings)) (limits (now (ledger .entry)) .bookings) && leb (ordered payee (bank (now (ledger .entry)) .bookings) + amount) 100000000000) ≡ false ] ⌝ }
 {
-    if ledger.has_room_for_booking() && ledger.ordered(payee) <= MOST - amount {
+    if ledger.has_room_for_booking() && ledger.has_room_for_order(payee, amount) {
         Some(amount)
     } else {
         None

@@ -9,7 +9,12 @@ use ledger::Ledger;
 use wire::answer::Answer;
 
 // What came to an account and what left it, by a value day, as known at the end of a day.
-pub(crate) fn balance(ledger: &Ledger, account: u64, value: u64, known: u64) -> Result<Answer, Refusal>
+pub(crate) fn balance(
+    ledger: &Ledger,
+    account: u64,
+    value: u64,
+    known: u64,
+) -> Result<Answer, Refusal>
     requires { ⌜ Kept (now ledger) ⌝ }
     ensures { λ r. ⌜ Asked (now (ledger .entry)) (balance account value known) (reply r) ⌝ }
 {

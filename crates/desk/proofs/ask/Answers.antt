@@ -17,7 +17,7 @@ returns-in-Ok c = asked-first (c .args .ledger .now) _ _ _ (ap meant (c .in-Bala
 
 pub returns-in-Err : need.returns-in-Err
 unfolding asks plain
-returns-in-Err c = asked-first (c .args .ledger .now) _ _ _ (ap meant (c .in-Balance .is)) refl 
+returns-in-Err c = asked-first (c .args .ledger .now) _ _ _ (ap meant (c .in-Balance .is)) refl
     (subst (λ (a : Answer). Asked (c .args .ledger .now) (balance (c .in-Balance .account) (c .in-Balance .value) (c .in-Balance .known)) a) (sym (c .answer .ensures)) (c .in-Err .ensures tt))
 
 pub returns-in-Sums : need.returns-in-Sums

@@ -17,10 +17,9 @@ returns-in-rest c = bad-limit (c .args .ledger .now) (c .pre) (c .args .limit) (
 pub returns-in-rest-rate-of : need.returns-in-rest-rate-of
 returns-in-rest-rate-of c = bad-rate (c .args .ledger .now) (c .pre) (c .args .limit) (c .args .rate) (c .in-Some .ensures tt .1) (c .in-rest-rate-of .ensures tt)
 
-pub returns-then-not-has-room-for-account : need.returns-then-not-has-room-for-account
-returns-then-not-has-room-for-account c =
-    no-room (c .args .ledger .now) (c .pre) (c .args .limit) (c .args .rate) (c .in-Some .ensures tt .1) (c .in-Some-rate-of .ensures tt .1)
-    (sym (c .has-room-for-account .ensures) ∙ c .if-not-has-room-for-account .taken)
+pub returns-in-rest-enterable : need.returns-in-rest-enterable
+returns-in-rest-enterable c =
+    no-room (c .args .ledger .now) (c .pre) (c .args .limit) (c .args .rate) (c .in-Some .ensures tt .1) (c .in-Some-rate-of .ensures tt .1) (c .in-rest-enterable .ensures tt)
 
 pub returns : need.returns
 unfolding asks told effects sets
@@ -28,10 +27,10 @@ returns c =
     let g = c .args .ledger .now in
     let m = c .in-Some .ensures tt .0 in
     let r = c .in-Some-rate-of .ensures tt .0 in
+    let w = c .in-Some-enterable .ensures tt .0 in
     let f = c .add-account-number .last .self in
     let x : Account = new-account (bank g .today) (c .args .limit) (c .args .rate) in
-    let same : new-account (bank g .today) (c .in-Some .limit) (c .in-Some-rate-of .rate) ≡ x = cc in
+    let same : new-account (bank g .today) (c .in-Some .limit) (c .in-Some-enterable .rate) ≡ x = cc in
     served-made g (c .pre) (opens (c .args .limit) (c .args .rate)) f _ (adds x) _
-    (passes g (c .pre) (c .args .limit) (c .args .rate) (c .in-Some .ensures tt .1) (c .in-Some-rate-of .ensures tt .1)
-    (sym (c .has-room-for-account .ensures) ∙ c .if-not-has-room-for-account .left))
+    (passes g (c .pre) (c .args .limit) (c .args .rate) (c .in-Some .ensures tt .1) (c .in-Some-rate-of .ensures tt .1) (c .in-Some-enterable .ensures tt .1))
     refl refl refl (subst (λ (y : Account). Made g f (adds y)) same (c .add-account-number .ensures .made)) (c .count-call .ensures) (ap number (c .add-account-number .ensures .number))
