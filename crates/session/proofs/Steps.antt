@@ -21,7 +21,7 @@ use Rattle.bank.proofs.Refusals.{failing}
 use Rattle.model.specs.First.{first-call, first-program, not-yet, size}
 use Rattle.model.specs.JournalBlock.{stored, journal-block}
 use Rattle.model.specs.Register.{Register, register-after}
-use Rattle.model.proofs.First.{first-grows}
+use Rattle.model.proofs.First.{more}
 use Rattle.model.proofs.JournalBlock.{storable}
 use Rattle.model.proofs.ReachedRegister.{register-idle}
 use Rattle.model.proofs.Steps.{taken-does, taken-next, quiet-does, quiet-next}
@@ -65,17 +65,9 @@ module _ (s t : Session) (c : Call) (y : readable c ≡ true) (a : Told) (did : 
   said = v .told-is ∙ ap (λ (b : Bool). pick b (answer l (bank (s .ledger)) c) (not-yet c)) (sym (first-is c y))
 
 -- a call that changes nothing is only answered
-module _ (s t : Session) (c : Call) (y : readable c ≡ true) (a : Told) (v : Served-first (s .ledger) (t .ledger) c a false) (j : t .journal ≡ s .journal) where
+module _ (s t : Session) (c : Call) (a : Told) (v : Served-first (s .ledger) (t .ledger) c a false) (j : t .journal ≡ s .journal) where
   bank-same : bank (t .ledger) ≡ bank (s .ledger)
   bank-same = ap (λ (k : Register). k .bank) (idle-register (s .ledger) (t .ledger) c a v)
-
-  pub quiet-state : memory t ≡ first-program (limits (s .ledger)) .next (memory s) c
-  quiet-state = (let b = bank-same in cc) ∙ sym (quiet-next (limits (s .ledger)) (memory s) c (test s t c y a false v))
-
-  pub quiet-acts : t .stage ≡ Saying → answer-of t ≡ a → left t ≡ first-program (limits (s .ledger)) .does (memory s) c
-  quiet-acts w e =
-      let p : left t ≡ say (answer-of t) ∷ [] = rw w refl in
-      p ∙ ap (λ (x : Told). say x ∷ []) (e ∙ said s t c y a false v) ∙ sym (quiet-does (limits (s .ledger)) (memory s) c (test s t c y a false v))
 
   pub quiet-ready : Ready s → length (now (t .bytes)) ≡ length (now (s .bytes)) → take (t .length) (now (t .bytes)) ≡ written-answer (answer-of t) → Ready t
   quiet-ready r e p =
@@ -95,46 +87,41 @@ module _ (s t : Session) (c : Call) (y : readable c ≡ true) (a : Told) (v : Se
         spoken = p;
       }
 
+module _ (s t : Session) (c : Call) (y : readable c ≡ true) (a : Told) (v : Served-first (s .ledger) (t .ledger) c a false) (j : t .journal ≡ s .journal) where
+  pub quiet-state : memory t ≡ first-program (limits (s .ledger)) .next (memory s) c
+  quiet-state = (let b = bank-same s t c a v j in cc) ∙ sym (quiet-next (limits (s .ledger)) (memory s) c (test s t c y a false v))
+
+  pub quiet-acts : t .stage ≡ Saying → answer-of t ≡ a → left t ≡ first-program (limits (s .ledger)) .does (memory s) c
+  quiet-acts w e =
+      let p : left t ≡ say (answer-of t) ∷ [] = rw w refl in
+      p ∙ ap (λ (x : Told). say x ∷ []) (e ∙ said s t c y a false v) ∙ sym (quiet-does (limits (s .ledger)) (memory s) c (test s t c y a false v))
+
 -- a call that is taken can be journalled
 taken-plain : (g h : Ledger) (c : Call) (a : Told) → Served-first g h c a true → (plain c ≡ true) × (changes (limits g) (bank g) c ≡ true)
 taken-plain g h c a v = and-parts (plain c) (changes (limits g) (bank g) c) (sym (v .did-is))
 
-pub can-append : (s : Session) (h : Ledger) (c : Call) (a : Told) → Ready s → readable c ≡ true → Served-first (s .ledger) h c a true → (s .journal .count < 24 * s .journal .blocks) × (stored c ≡ true)
-can-append s h c a r y v =
-    let l : Limits = limits (s .ledger) in
+pub can-store : (s : Session) (h : Ledger) (c : Call) (a : Told) → Ready s → Served-first (s .ledger) h c a true → stored c ≡ true
+can-store s h c a r v = storable (limits (s .ledger)) (r .kept .allows) (bank (s .ledger)) c (taken-plain (s .ledger) h c a v .1)
+
+pub has-place : (s : Session) (h : Ledger) (c : Call) (a : Told) → Ready s → Served-first (s .ledger) h c a true → s .journal .count < 24 * s .journal .blocks
+has-place s h c a r v =
     let p = taken-plain (s .ledger) h c a v in
-    let f : first-call c ≡ true = first-is c y ∙ p .0 in
-    let b = first-grows l (r .kept .allows) .bound (bank (s .ledger)) c f (p .1) in
-    (let e = r .joined .blocks-are in omega (arith, r .counted), storable l (r .kept .allows) (bank (s .ledger)) c (p .1))
+    let b = more (limits (s .ledger)) (bank (s .ledger)) c (p .0) (p .1) in
+    let e = r .joined .blocks-are in
+    omega (arith, r .counted)
 
 -- it is written, flushed and answered
-module _ (s t : Session) (c : Call) (y : readable c ≡ true) (a : Told) (v : Served-first (s .ledger) (t .ledger) c a true) (j : Appended (s .journal) (t .journal) c) where
-  after-bank : bank (t .ledger) ≡ after (limits (s .ledger)) (bank (s .ledger)) c
+module _ (s t : Session) (c : Call) (a : Told) (v : Served-first (s .ledger) (t .ledger) c a true) (j : Appended (s .journal) (t .journal) c) where
+  pub after-bank : bank (t .ledger) ≡ after (limits (s .ledger)) (bank (s .ledger)) c
   after-bank =
       let p = taken-plain (s .ledger) (t .ledger) c a v .0 in
       ap (λ (k : Register). k .bank) (v .after-is ∙ ap (λ (b : Bool). pick b (register-after (limits (s .ledger)) (register (s .ledger)) c) (register (s .ledger))) p)
-
-  pub taken-state : memory t ≡ first-program (limits (s .ledger)) .next (memory s) c
-  taken-state =
-      let n : t .journal .count ≡ suc (s .journal .count) = j .count ∙ add-one (s .journal .count) in
-      let b = after-bank in
-      let w = j .tail in
-      (cc) ∙ sym (taken-next (limits (s .ledger)) (memory s) c (test s t c y a true v))
-
-  pub taken-acts : Joined s → t .stage ≡ Writing → answer-of t ≡ a → t .place ≡ s .journal .count / 24 → left t ≡ first-program (limits (s .ledger)) .does (memory s) c
-  taken-acts o w e k =
-      let p : left t ≡ write (t .place) (now (t .journal .block)) ∷ (flush ∷ (say (answer-of t) ∷ [])) = rw w refl in
-      let f : first-call c ≡ true = first-is c y ∙ taken-plain (s .ledger) (t .ledger) c a v .0 in
-      let x : a ≡ answer (limits (s .ledger)) (bank (s .ledger)) c = said s t c y a true v ∙ ap (λ (b : Bool). pick b (answer (limits (s .ledger)) (bank (s .ledger)) c) (not-yet c)) f in
-      let b : now (t .journal .block) ≡ journal-block 1 (limits (s .ledger)) 0 (tail (s .journal) ++ (c ∷ [])) =
-          j .bytes ∙ (let u = o .bounds-are in let z = o .format-is in let q = o .epoch-is in cc) in
-      p ∙ (cc) ∙ sym (taken-does (limits (s .ledger)) (memory s) c (test s t c y a true v))
 
   pub taken-ready : Ready s → length (now (t .bytes)) ≡ length (now (s .bytes)) → take (t .length) (now (t .bytes)) ≡ written-answer (answer-of t) → Ready t
   taken-ready r e p =
       let m : limits (t .ledger) ≡ limits (s .ledger) = v .limits-stay in
       let q = taken-plain (s .ledger) (t .ledger) c a v in
-      let g = first-grows (limits (s .ledger)) (r .kept .allows) .grows (bank (s .ledger)) c (first-is c y ∙ q .0) (q .1) in
+      let g = more (limits (s .ledger)) (bank (s .ledger)) c (q .0) (q .1) in
       let z = ap size after-bank in
       let same : bounds (t .journal) ≡ bounds (s .journal) = let x = j .alike .limits in cc in
       record {
@@ -151,6 +138,23 @@ module _ (s t : Session) (c : Call) (y : readable c ≡ true) (a : Told) (v : Se
         roomy = omega (arith, r .roomy);
         spoken = p;
       }
+
+module _ (s t : Session) (c : Call) (y : readable c ≡ true) (a : Told) (v : Served-first (s .ledger) (t .ledger) c a true) (j : Appended (s .journal) (t .journal) c) where
+  pub taken-state : memory t ≡ first-program (limits (s .ledger)) .next (memory s) c
+  taken-state =
+      let n : t .journal .count ≡ suc (s .journal .count) = j .count ∙ add-one (s .journal .count) in
+      let b = after-bank s t c a v j in
+      let w = j .tail in
+      (cc) ∙ sym (taken-next (limits (s .ledger)) (memory s) c (test s t c y a true v))
+
+  pub taken-acts : Joined s → t .stage ≡ Writing → answer-of t ≡ a → t .place ≡ s .journal .count / 24 → left t ≡ first-program (limits (s .ledger)) .does (memory s) c
+  taken-acts o w e k =
+      let p : left t ≡ write (t .place) (now (t .journal .block)) ∷ (flush ∷ (say (answer-of t) ∷ [])) = rw w refl in
+      let f : first-call c ≡ true = first-is c y ∙ taken-plain (s .ledger) (t .ledger) c a v .0 in
+      let x : a ≡ answer (limits (s .ledger)) (bank (s .ledger)) c = said s t c y a true v ∙ ap (λ (b : Bool). pick b (answer (limits (s .ledger)) (bank (s .ledger)) c) (not-yet c)) f in
+      let b : now (t .journal .block) ≡ journal-block 1 (limits (s .ledger)) 0 (tail (s .journal) ++ (c ∷ [])) =
+          j .bytes ∙ (let u = o .bounds-are in let z = o .format-is in let q = o .epoch-is in cc) in
+      p ∙ (cc) ∙ sym (taken-does (limits (s .ledger)) (memory s) c (test s t c y a true v))
 
 -- what a call leaves, all of it
 pub record Called (s t : Session) (c : Call) : Type 0 where
@@ -175,7 +179,7 @@ module _ (s t : Session) (c d : Call) (h : Ledger) (k : Code) (r : Ready s) (y :
       record {
         state = quiet-state s t d y (answered k []) u j;
         acts = quiet-acts s t d y (answered k []) u j w (ap (λ (x : Code). answered x []) e);
-        ready = quiet-ready s t d y (answered k []) u j r long (spoken-by t k e p);
+        ready = quiet-ready s t d (answered k []) u j r long (spoken-by t k e p);
         limits = u .limits-stay;
       }
 
@@ -186,6 +190,6 @@ module _ (s t : Session) (c d : Call) (h : Ledger) (k : Code) (r : Ready s) (y :
       record {
         state = taken-state s t d y (answered k []) u q;
         acts = taken-acts s t d y (answered k []) u q (r .joined) w (ap (λ (x : Code). answered x []) e) at;
-        ready = taken-ready s t d y (answered k []) u q r long (spoken-by t k e p);
+        ready = taken-ready s t d (answered k []) u q r long (spoken-by t k e p);
         limits = u .limits-stay;
       }

@@ -19,7 +19,7 @@ use Rattle.session.specs.declared.Session.{Session}
 use Rattle.session.specs.declared.Stage.the-variants.{Writing}
 use Rattle.session.proofs.Replies.{follows}
 use Rattle.session.proofs.Readable.{row-readable}
-use Rattle.session.proofs.Steps.{Called, served-garbled, can-append, called-quiet, called-taken}
+use Rattle.session.proofs.Steps.{Called, served-garbled, can-store, has-place, called-quiet, called-taken}
 use Rattle.session.proofs.Session.call.Needs as need
 
 pub returns-in-Err : need.returns-in-Err
@@ -42,16 +42,13 @@ pub append-self-requires : need.append-self-requires
 append-self-requires c κs =
     let s = c .args .self .now in
     let e = c .reply-2 .ensures .journal in
-    let y = row-readable (c .args .row .now) (λ i. omega (arith, c .typed .row i)) (omega arith) in
     let d : c .take-outcome .result .changed ≡ true = c .if-outcome .taken in
-    let same : meant (c .in-Ok .call) ≡ read-call (c .args .row .now) = c .in-Ok .ensures tt in
     let v : Served-first (s .ledger) (c .take-outcome .last .ledger) (meant (c .in-Ok .call)) (answered (c .take-outcome .result .answer) []) true =
         subst (λ (b : Bool). Served-first (s .ledger) (c .take-outcome .last .ledger) (meant (c .in-Ok .call)) (answered (c .take-outcome .result .answer) []) b) d (c .take-outcome .ensures) in
-    let q : (s .journal .count < 24 * s .journal .blocks) × (stored (meant (c .in-Ok .call)) ≡ true) = can-append s _ _ _ (c .pre) (ap readable same ∙ y) v in
     record {
       sound = subst Sound (sym e) (c .pre .journal);
-      room = subst (λ (j : Journal). j .count < 24 * j .blocks) (sym e) (q .0);
-      kept = q .1;
+      room = subst (λ (j : Journal). j .count < 24 * j .blocks) (sym e) (has-place s _ _ _ (c .pre) v);
+      kept = can-store s _ _ _ (c .pre) v;
     }
 
 pub returns-then-outcome : need.returns-then-outcome
