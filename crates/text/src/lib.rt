@@ -1,2 +1,4 @@
 // Calls and answers as lines of text.
+pub mod line;
+pub mod numbers;
 pub mod word;

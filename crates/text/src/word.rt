@@ -7,6 +7,7 @@ ghost use Prim.Native.Nat.{_+_, _*_, _^_, _≤_, _<_};
 ghost use lib.ListN.{length, getD, take, drop};
 ghost use Rattle.std.specs.declared.option.Option.the-variants.{Some, None};
 ghost use Rattle.std.specs.Text.{asciiDigit, digitValue};
+ghost use Rattle.std.specs.shelf.Text.{sameBytes};
 ghost use Rattle.text.specs.Words.{blank, ended, number-in, words};
 
 // Does a byte stand between words: a space, a tab or a carriage return?
@@ -54,6 +55,13 @@ pub(crate) fn first_word(line: &[u8]) -> Option<(&[u8], &[u8])>
         return None;
     }
     Some(line.split_at(word_len(line)))
+}
+
+// Are two words the same?
+pub(crate) fn is_same(a: &[u8], b: &[u8]) -> bool
+    ensures { λ r. ⌜ r ≡ sameBytes (now (a .entry)) (now (b .entry)) ⌝ }
+{
+    a == b
 }
 
 // A number with one digit more, if the byte is a digit and the number does not grow too large.

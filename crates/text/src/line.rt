@@ -1,0 +1,139 @@
+// Lines of calls: in words, by the forms below, or as numbers.
+//
+// | byte | line in words |
+// |---|---|
+// | 0 | open LIMIT RATE |
+// | 1 | rate ACCOUNT RATE |
+// | 2 | move VALUE-DAY from ACCOUNT to ACCOUNT AMOUNT |
+// | 3 | take back BOOKING |
+// | 4 | day ends |
+// | 5 | balance ACCOUNT VALUE-DAY KNOWN-DAY |
+// | 6 | statement ACCOUNT FIRST-DAY LAST-DAY |
+// | 7 | sums |
+// | 8 | taken |
+ghost use mathlib.Core.Path.{_≡_};
+ghost use mathlib.Core.List.{[]};
+ghost use Prim.Native.Nat.{_+_, _≤_, _<_};
+ghost use lib.ListN.{length, getD};
+ghost use Rattle.text.specs.Words.{words};
+ghost use Rattle.std.specs.declared.option.Option.{Option};
+ghost use Rattle.std.specs.declared.option.Option.the-variants.{Some, None};
+ghost use Rattle.text.specs.Lines.{Matched, Row-written, by-forms, call-forms, few-numbers, followed, found, listed, numbers-by, numbers-in, row-in, row-of-numbers};
+use crate::numbers::MOST;
+use crate::numbers::Numbers;
+use crate::word::first_word;
+use crate::word::is_same;
+use crate::word::number_in;
+use wire::bytes::put_numbers;
+
+// The form of a call's line in words; a mark stands for a number.
+fn form(number: u8) -> &'static [u8]
+    requires { ⌜ number < 9 ⌝ }
+    ensures { λ r. ⌜ now r ≡ getD call-forms number [] ⌝ }
+{
+    match number {
+        0 => b"open # #",
+        1 => b"rate # #",
+        2 => b"move # from # to # #",
+        3 => b"take back #",
+        4 => b"day ends",
+        5 => b"balance # # #",
+        6 => b"statement # # #",
+        7 => b"sums",
+        _ => b"taken",
+    }
+}
+
+// A word by the word of a form: a number more where that is a mark, else the same word.
+fn matched(numbers: Numbers, mark: &[u8], word: &[u8]) -> Option<Numbers>
+    requires { ⌜ numbers .count < 9 ⌝ }
+    ensures { λ r. ⌜ Matched numbers (now (mark .entry)) (now (word .entry)) r ⌝ }
+{
+    if is_same(mark, b"#") {
+        let n = number_in(word)?;
+        return Some(numbers.with(n));
+    }
+    if is_same(mark, word) {
+        Some(numbers)
+    } else {
+        None
+    }
+}
+
+// The numbers of a line by a form, behind the number of that form.
+fn numbers_by(number: u8, form: &[u8], line: &[u8]) -> Option<Numbers>
+    requires { ⌜ length (words (now form)) ≤ 8 ⌝ }
+    ensures { λ r. ⌜ found r ≡ followed (Some number) (numbers-by (words (now (form .entry))) (words (now (line .entry)))) ⌝ }
+{
+    let mut numbers = Numbers::none().with(number as u64);
+    let mut form = form;
+    let mut line = line;
+    while let Some((mark, more)) = first_word(form) {
+        let (word, rest) = first_word(line)?;
+        numbers = matched(numbers, mark, word)?;
+        form = more;
+        line = rest;
+    }
+    match first_word(line) {
+        Some(_) => None,
+        None => Some(numbers),
+    }
+}
+
+// The numbers of a line in words, behind the byte that its call begins with.
+fn in_words(line: &[u8]) -> Option<Numbers>
+    ensures { λ r. ⌜ found r ≡ by-forms 0 call-forms (words (now (line .entry))) ⌝ }
+{
+    for number in 0..9 {
+        if let Some(numbers) = numbers_by(number, form(number), line) {
+            return Some(numbers);
+        }
+    }
+    None
+}
+
+// The numbers of a line that has only numbers, and few enough.
+fn in_numbers(line: &[u8]) -> Option<Numbers>
+    ensures { λ r. ⌜ found r ≡ few-numbers (words (now (line .entry))) ⌝ }
+{
+    let mut numbers = Numbers::none();
+    let mut line = line;
+    while let Some((word, rest)) = first_word(line) {
+        if numbers.count == MOST {
+            return None;
+        }
+        let n = number_in(word)?;
+        numbers = numbers.with(n);
+        line = rest;
+    }
+    Some(numbers)
+}
+
+// The numbers that a line stands for.
+fn numbers_in(line: &[u8]) -> Option<Numbers>
+    ensures { λ r. ⌜ found r ≡ numbers-in (words (now (line .entry))) ⌝ }
+{
+    match in_words(line) {
+        Some(numbers) => Some(numbers),
+        None => in_numbers(line),
+    }
+}
+
+// Writes the row of some numbers: the first as a byte, and eight bytes for each other.
+fn put_row(numbers: Numbers, row: &mut [u8; 65]) -> Option<usize>
+    ensures { λ r. ⌜ Row-written (row-of-numbers (Some (listed numbers))) (now (row .entry)) (now (row .exit)) r ⌝ }
+{
+    if numbers.count == 0 || numbers.list[0] > 255 {
+        return None;
+    }
+    row[0] = numbers.list[0] as u8;
+    let widths = [8; 8];
+    Some(put_numbers(row, 1, &widths[0..numbers.count - 1], &numbers.list[1..]))
+}
+
+// Writes the row of bytes that a line stands for at the beginning of `row`, and says how many bytes it has; none where a line stands for no row.
+pub fn read_line(line: &[u8], row: &mut [u8; 65]) -> Option<usize>
+    ensures { λ r. ⌜ Row-written (row-in (now (line .entry))) (now (row .entry)) (now (row .exit)) r ⌝ }
+{
+    put_row(numbers_in(line)?, row)
+}
