@@ -1,3 +1,5 @@
 pub mod Split
 pub mod Digits
 pub mod Forms
+pub mod Counts
+pub mod Rows

@@ -123,12 +123,15 @@ fn numbers_in(line: &[u8]) -> Option<Numbers>
 fn put_row(numbers: Numbers, row: &mut [u8; 65]) -> Option<usize>
     ensures { λ r. ⌜ Row-written (row-of-numbers (Some (listed numbers))) (now (row .entry)) (now (row .exit)) r ⌝ }
 {
-    if numbers.count == 0 || numbers.list[0] > 255 {
+    if numbers.count == 0 {
+        return None;
+    }
+    if numbers.list[0] > 255 {
         return None;
     }
     row[0] = numbers.list[0] as u8;
     let widths = [8; 8];
-    Some(put_numbers(row, 1, &widths[0..numbers.count - 1], &numbers.list[1..]))
+    Some(put_numbers(row, 1, &widths[0..numbers.count - 1], &numbers.list[1..numbers.count]))
 }
 
 // Writes the row of bytes that a line stands for at the beginning of `row`, and says how many bytes it has; none where a line stands for no row.
