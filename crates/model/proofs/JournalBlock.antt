@@ -20,10 +20,10 @@ use Rattle.device.specs.Rows.{top, bytes-of, row, number-of, numbers, fits-in, 
 use Rattle.device.proofs.Rows.{zeros, block-begun, block-more, row-of-length, row-of-bytes, row-of-back, block-full, block-bytes, block-back}
 use Rattle.model.proofs.Taken.{never, pick-zero, taken-fits, taken-good, taken-by, Fits, fits-parts, Allowed, allowed-parts}
 
-call-fits : (c : Call) → stored c ≡ true → fits-row call-row c ≡ true
+pub call-fits : (c : Call) → stored c ≡ true → fits-row call-row c ≡ true
 call-fits c h = and-parts (not (asks c)) (fits-row call-row c) h .1
 
-call-back : (c : Call) → stored c ≡ true → call-from (call-kind c) (call-numbers c) ≡ c
+pub call-back : (c : Call) → stored c ≡ true → call-from (call-kind c) (call-numbers c) ≡ c
 unfolding call-kind call-numbers call-from asks
 call-back (opens m r) h = refl
 call-back (rated a r) h = refl

@@ -1,18 +1,19 @@
 -- Laws of numbers in bytes and of bytes written into others.
 use mathlib.Core.Path.{_≡_, refl, sym, ap, _∙_}
-use mathlib.Core.Bool.{Bool, true}
+use mathlib.Core.Bool.{true}
 use mathlib.Core.List.{List, [], _∷_, _++_, append-assoc}
 use Prim.Native.Nat.{ℕ, zero, suc, _+_, _-_, _*_, _/_, _%_, _≤_, _<_}
 use native.Mathlib.Nat.{div-div-eq-div-mul, add-assoc, add-zero, zero-add, suc-add}
 use native.Mathlib.Numerals.{add-one}
 use native.Mathlib.Omega.{arith}
 use lib.ListN.{length, getD, set, take, drop, replicate, length-take, length-drop, length-append}
-use Rattle.std.proofs.shelf.Lists.{take-at, drop-at, drop-drop, take-append-drop, take-append-le, drop-append-le, drop-replicate, take-replicate, append-nil, length-take-le, set-at, set-split}
+use Rattle.std.proofs.shelf.Lists.{take-at, drop-at, drop-drop, take-append-drop, take-append-le, drop-append-le, drop-replicate, take-replicate, append-nil, length-take-le, set-at, set-split, drop-take}
 use borrow.Rule.Slice.PartMut.{putMid, post-is}
-use Rattle.device.specs.Rows.{bytes-of, number-of, numbers, row, width, with-bytes}
-use Rattle.device.proofs.Rows.{length-bytes, row-length, zeros}
-use Rattle.std.proofs.shelf.Tests.{and-parts, leb-true}
-use lib.Dec.{leb}
+use Rattle.device.specs.Rows.{bytes-of, number-of, numbers, row, top, width, with-bytes}
+use Rattle.device.proofs.Rows.{row-length, zeros}
+use Rattle.std.proofs.shelf.Tests.{and-parts, leb-true, ltb-true}
+use lib.Dec.{leb, ltb}
+use Rattle.device.specs.Device.{all-bytes}
 use Rattle.wire.specs.Bytes.{eights, form, narrow}
 
 -- what to_le_bytes writes
@@ -185,3 +186,115 @@ form-put out after ws t ns h e w =
     e ∙ ap (λ x. with-bytes (set out 0 t) 1 (row x ns)) w
     ∙ ap (λ x. with-bytes x 1 (row (eights (length ns)) ns)) (put-one out 0 t h)
     ∙ put-put out (t ∷ []) (row (eights (length ns)) ns) 0 1 refl (omega arith)
+
+-- bytes are those of the number that they are
+pub bytes-again : (k : ℕ) (bs : List ℕ) → all-bytes bs ≡ true → k ≤ length bs → bytes-of k (number-of k bs) ≡ take k bs
+unfolding bytes-of number-of all-bytes
+bytes-again zero bs b h = refl
+bytes-again (suc k) [] b h = absurd (omega arith)
+bytes-again (suc k) (x ∷ bs) b h =
+    let q = and-parts (ltb x 256) (all-bytes bs) b in
+    let small : x < 256 = ltb-true x 256 (q .0) in
+    let low : (x + 256 * number-of k bs) % 256 ≡ x = omega arith in
+    let high : (x + 256 * number-of k bs) / 256 ≡ number-of k bs = omega arith in
+    rw (low, high) (ap (λ r. x ∷ r) (bytes-again k bs (q .1) (omega arith)))
+
+pub bytes-tail : (x : ℕ) (bs : List ℕ) → all-bytes (x ∷ bs) ≡ true → all-bytes bs ≡ true
+unfolding all-bytes
+bytes-tail x bs b = and-parts (ltb x 256) (all-bytes bs) b .1
+
+bytes-rest : (k : ℕ) (bs : List ℕ) → all-bytes bs ≡ true → all-bytes (drop k bs) ≡ true
+unfolding all-bytes
+bytes-rest zero bs b = b
+bytes-rest (suc k) [] b = refl
+bytes-rest (suc k) (x ∷ bs) b = bytes-rest k bs (bytes-tail x bs b)
+
+take-sum : (k m : ℕ) (bs : List ℕ) → take k bs ++ take m (drop k bs) ≡ take (k + m) bs
+take-sum zero m bs = rw zero-add
+take-sum (suc k) zero [] = rw add-zero
+take-sum (suc k) (suc m) [] = rw suc-add
+take-sum (suc k) m (x ∷ bs) = rw suc-add (ap (λ r. x ∷ r) (take-sum k m bs))
+
+pub row-again : (ks bs : List ℕ) → all-bytes bs ≡ true → width ks ≤ length bs → row ks (numbers ks bs) ≡ take (width ks) bs
+unfolding row numbers
+row-again [] bs b h = refl
+row-again (k ∷ ks) bs b h =
+    let long : width ks ≤ length (drop k bs) = simp length-drop (omega arith) in
+    ap (λ r. r ++ row ks (numbers ks (drop k bs))) (bytes-again k bs b (omega arith))
+    ∙ ap (λ r. take k bs ++ r) (row-again ks (drop k bs) (bytes-rest k bs b) long)
+    ∙ take-sum k (width ks) bs
+
+-- and it is below what so many bytes can hold
+number-small : (k : ℕ) (bs : List ℕ) → all-bytes bs ≡ true → number-of k bs < top k
+unfolding number-of all-bytes
+number-small zero bs b = omega arith
+number-small (suc k) [] b = omega (arith, number-small k [] refl)
+number-small (suc k) (x ∷ bs) b =
+    let q = and-parts (ltb x 256) (all-bytes bs) b in
+    omega (arith, ltb-true x 256 (q .0), number-small k bs (q .1))
+
+top-small : (k : ℕ) → k ≤ 8 → top k ≤ 18446744073709551616
+top-small zero h = omega arith
+top-small (suc zero) h = omega arith
+top-small (suc (suc zero)) h = omega arith
+top-small (suc (suc (suc zero))) h = omega arith
+top-small (suc (suc (suc (suc zero)))) h = omega arith
+top-small (suc (suc (suc (suc (suc zero))))) h = omega arith
+top-small (suc (suc (suc (suc (suc (suc zero)))))) h = omega arith
+top-small (suc (suc (suc (suc (suc (suc (suc zero))))))) h = omega arith
+top-small (suc (suc (suc (suc (suc (suc (suc (suc zero)))))))) h = omega arith
+top-small (suc (suc (suc (suc (suc (suc (suc (suc (suc k))))))))) h = absurd (omega arith)
+
+word-small : (k : ℕ) → k ≤ 8 → (n : ℕ) → n < top k → n < 18446744073709551616
+word-small k h n l = omega (arith, top-small k h)
+
+pub numbers-small : (ks bs : List ℕ) → all-bytes bs ≡ true → narrow ks ≡ true → (i : ℕ) → getD (numbers ks bs) i 0 < 18446744073709551616
+unfolding numbers
+numbers-small [] bs b n i = omega arith
+numbers-small (k ∷ ks) bs b n zero = let q = and-parts (leb k 8) (narrow ks) n in word-small k (leb-true k 8 (q .0)) (number-of k bs) (number-small k bs b)
+numbers-small (k ∷ ks) bs b n (suc i) = numbers-small ks (drop k bs) (bytes-rest k bs b) (and-parts (leb k 8) (narrow ks) n .1) i
+
+-- what stands before and behind what was written is as it was
+pub put-before : (xs ys : List ℕ) (at i k : ℕ) → at ≤ length xs → i + k ≤ at → take k (drop i (with-bytes xs at ys)) ≡ take k (drop i xs)
+put-before xs ys at i k h b =
+    let l : i ≤ length (take at xs) = simp length-take (omega arith) in
+    let m : k ≤ length (drop i (take at xs)) = simp (length-drop, length-take) (omega arith) in
+    let front : (r : List ℕ) → take k (drop i (take at xs ++ r)) ≡ take k (drop i (take at xs)) =
+    λ r. ap (take k) (drop-append-le i (take at xs) r l) ∙ take-append-le k (drop i (take at xs)) r m in
+    front (ys ++ drop (at + length ys) xs) ∙ sym (ap (λ x. take k (drop i x)) (sym (take-append-drop at xs)) ∙ front (drop at xs))
+
+pub put-behind : (xs ys : List ℕ) (at i : ℕ) → at + length ys ≤ length xs → at + length ys ≤ i → drop i (with-bytes xs at ys) ≡ drop i xs
+put-behind xs ys at i h b =
+    let e : ℕ = at + length ys in
+    let l : length (take at xs ++ ys) ≡ e = simp (length-append, length-take) (omega arith) in
+    let s : i ≡ e + (i - e) = omega arith in
+    ap (λ n. drop n (with-bytes xs at ys)) s
+    ∙ sym (drop-drop (i - e) e (with-bytes xs at ys))
+    ∙ ap (drop (i - e)) (ap (drop e) (sym (append-assoc (take at xs) ys (drop e xs))) ∙ drop-at (take at xs ++ ys) (drop e xs) e l)
+    ∙ drop-drop (i - e) e xs
+    ∙ ap (λ n. drop n xs) (sym s)
+
+-- and at its place stands what was written
+pub put-there : (xs ys : List ℕ) (at : ℕ) → at ≤ length xs → drop at (with-bytes xs at ys) ≡ ys ++ drop (at + length ys) xs
+put-there xs ys at h = drop-at (take at xs) (ys ++ drop (at + length ys) xs) at (length-take-le at xs h)
+
+-- numbers are read from the bytes that they have
+pub number-within : (k n : ℕ) (bs : List ℕ) → k ≤ n → number-of k (take n bs) ≡ number-of k bs
+unfolding number-of
+number-within zero n bs h = refl
+number-within (suc k) zero bs h = absurd (omega arith)
+number-within (suc k) (suc n) [] h = refl
+number-within (suc k) (suc n) (b ∷ bs) h = ap (λ r. b + 256 * r) (number-within k n bs (omega arith))
+
+drop-within : (k n : ℕ) (bs : List ℕ) → k ≤ n → drop k (take n bs) ≡ take (n - k) (drop k bs)
+drop-within k n bs h = let s : n ≡ k + (n - k) = omega arith in ap (λ m. drop k (take m bs)) s ∙ drop-take k (n - k) bs
+
+front-numbers : (ks bs : List ℕ) (n : ℕ) → width ks ≤ n → numbers ks (take n bs) ≡ numbers ks bs
+unfolding numbers
+front-numbers [] bs n h = refl
+front-numbers (k ∷ ks) bs n h =
+    ap (λ x. x ∷ numbers ks (drop k (take n bs))) (number-within k n bs (omega arith))
+    ∙ ap (λ x. number-of k bs ∷ x) (ap (numbers ks) (drop-within k n bs (omega arith)) ∙ front-numbers ks (drop k bs) (n - k) (omega arith))
+
+pub numbers-within : (ks bs : List ℕ) (i n : ℕ) → i + width ks ≤ n → numbers ks (drop i (take n bs)) ≡ numbers ks (drop i bs)
+numbers-within ks bs i n h = ap (numbers ks) (drop-within i n bs (omega arith)) ∙ front-numbers ks (drop i bs) (n - i) (omega arith)

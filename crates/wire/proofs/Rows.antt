@@ -1,27 +1,32 @@
 -- Laws of journal rows.
 use mathlib.Core.Path.{_≡_, refl, sym, ap, _∙_}
-use mathlib.Core.Bool.{Bool, true, false}
+use mathlib.Core.Bool.{Bool, true, false, not}
+use mathlib.Core.Logic.{inl, inr}
+use lib.Dec.{eqb}
+use borrow.Author.Tests.{eq-eqb}
+use Rattle.std.proofs.shelf.Tests.{and-from}
 use mathlib.Core.List.{List, [], _∷_, _++_, append-assoc}
-use Prim.Native.Nat.{ℕ, zero, suc, _+_, _-_, _*_, _≤_, _<_}
+use Prim.Native.Nat.{ℕ, zero, suc, _+_, _-_, _≤_, _<_}
 use native.Mathlib.Omega.{arith}
-use lib.ListN.{length, getD, take, drop, replicate, length-take, length-drop, length-append, length-replicate}
+use lib.ListN.{length, take, drop, replicate, length-take, length-drop, length-append, length-replicate}
 use borrow.Rule.Slice.PartMut.{putMid}
+use Rattle.bank.specs.Book.{pick}
+use Rattle.bank.specs.Calls.{Call as Meant}
+use Rattle.bank.specs.Calls.{opens, rated, move, take-back, day-ends, balance, statement, sums, taken-so-far, garbled, turned}
 use Rattle.bank.specs.Promise.{asks}
-use Rattle.device.specs.Rows.{bytes-of, number-of, numbers, row, row-of, thing-in, width, with-bytes}
-use Rattle.device.proofs.Rows.{length-bytes, row-length}
+use Rattle.device.specs.Rows.{bytes-of, number-of, numbers, row, row-of, thing-in, used-by, width, with-bytes}
+use Rattle.device.proofs.Rows.{length-bytes, number-back, row-length, row-of-back, row-of-length, zeros}
 use Rattle.model.specs.JournalBlock.{call-from, call-kind, call-numbers, call-row, call-widths, stored}
+use Rattle.model.proofs.JournalBlock.{call-back, call-fits, storable}
 use Rattle.model.proofs.Taken.{never}
 use Rattle.wire.specs.declared.call.Call.{Call}
 use Rattle.wire.specs.declared.call.Call.the-variants.{Open, Rate, Move, TakeBack, DayEnds, Balance, Statement, Sums, Taken}
 use Rattle.wire.specs.Meaning.{meant}
-use Rattle.wire.specs.Format.{call-fields, call-number, call-of}
-use Rattle.std.proofs.shelf.Lists.{drop-drop}
-use Rattle.wire.proofs.Numbers.{getD-zeros, length-put, put-part, put-put}
-use Rattle.wire.proofs.Calls.{same-call}
-
--- a call's numbers as the code has them
-abbrev padded : Call → List ℕ
-padded c = call-fields (meant c) ++ replicate (4 - length (call-fields (meant c))) 0
+use Rattle.wire.specs.Format.{call-number, call-of}
+use Rattle.wire.specs.JournalRow.{Apart, Empty, Has-row, Remembers, kind-at}
+use Rattle.std.proofs.shelf.Lists.{drop-drop, drop-replicate}
+use Rattle.wire.proofs.Numbers.{getD-zeros, length-put, number-within, numbers-within, put-before, put-behind, put-part, put-put, put-there}
+use Rattle.wire.proofs.Calls.{padded, same-call}
 
 -- the row by a kind, widths and numbers
 abbrev laid : ℕ → List ℕ → List ℕ → List ℕ
@@ -95,3 +100,65 @@ row-read block ks ns at kind m e h l w n =
     ∙ ap (λ x. call-from kind (numbers x (drop (at + 2) block))) w
     ∙ ap (λ x. call-from kind (numbers (call-widths kind) x)) (sym (drop-drop 2 at block))
     ∙ ap (λ k. call-from k (numbers (call-widths k) (drop 2 (drop at block)))) e
+
+-- a kind that there is
+kind-there : (c : Meant) → stored c ≡ true → (1 ≤ call-kind c) × (call-kind c ≤ 5)
+unfolding asks call-kind
+kind-there (opens m r) h = (omega arith, omega arith)
+kind-there (rated a r) h = (omega arith, omega arith)
+kind-there (move v a b x) h = (omega arith, omega arith)
+kind-there (take-back k) h = (omega arith, omega arith)
+kind-there day-ends h = (omega arith, omega arith)
+kind-there (balance a d k) h = never h
+kind-there (statement a d e) h = never h
+kind-there sums h = never h
+kind-there taken-so-far h = never h
+kind-there (garbled k) h = never h
+
+kind-first : (c : Meant) (rest : List ℕ) → stored c ≡ true → number-of 2 (row-of call-row c ++ rest) ≡ call-kind c
+unfolding row-of
+kind-first c rest h =
+    let body : List ℕ = row (call-widths (call-kind c)) (call-numbers c) ++ replicate (20 - used-by call-row c) 0 in
+    ap (number-of 2) (append-assoc (bytes-of 2 (call-kind c)) body rest) ∙ number-back 2 (call-kind c) (body ++ rest) (omega (arith, kind-there c h .1))
+
+pub remembers : Remembers
+remembers bs at c room h =
+    let rest : List ℕ = drop (at + length (row-of call-row c)) bs in
+    let there : drop at (with-bytes bs at (row-of call-row c)) ≡ row-of call-row c ++ rest = put-there bs (row-of call-row c) at (omega arith) in
+    let kind : kind-at (with-bytes bs at (row-of call-row c)) at ≡ call-kind c = ap (number-of 2) there ∙ kind-first c rest h in
+    let k = kind-there c h in
+    (ap (thing-in call-row) there ∙ row-of-back call-row c rest (call-fits c h) (call-back c h), omega arith, omega arith)
+
+-- a row is its 20 bytes
+pick-few : (b : Bool) (xs ys : List ℕ) → width xs ≤ 18 → width ys ≤ 18 → width (pick b xs ys) ≤ 18
+pick-few true xs ys h l = h
+pick-few false xs ys h l = l
+
+widths-few : (k : ℕ) → width (call-widths k) ≤ 18
+unfolding call-widths
+widths-few k =
+    pick-few (eqb k 1) (8 ∷ (2 ∷ [])) _ (omega arith)
+    (pick-few (eqb k 2) (2 ∷ (2 ∷ [])) _ (omega arith) (pick-few (eqb k 3) (2 ∷ (2 ∷ (2 ∷ (8 ∷ [])))) _ (omega arith) (pick-few (eqb k 4) (4 ∷ []) [] (omega arith) (omega arith))))
+
+thing-within : (bs : List ℕ) → thing-in call-row (take 20 bs) ≡ thing-in call-row bs
+unfolding thing-in
+thing-within bs =
+    ap (λ k. call-from k (numbers (call-widths k) (drop 2 (take 20 bs)))) (number-within 2 20 bs (omega arith))
+    ∙ ap (call-from (number-of 2 bs)) (numbers-within (call-widths (number-of 2 bs)) bs 2 20 (omega (arith, widths-few (number-of 2 bs))))
+
+pub apart : Apart
+apart bs at i c room h where-else =
+    let ys : List ℕ = row-of call-row c in
+    let long : length ys ≡ 20 = row-of-length call-row c (call-fits c h) in
+    let same : take 20 (drop i (with-bytes bs at ys)) ≡ take 20 (drop i bs) =
+    elim where-else [ inl b ↦ put-before bs ys at i 20 (omega arith) b | inr b ↦ ap (take 20) (put-behind bs ys at i (omega arith) (omega arith)) ] in (
+      same,
+      sym (number-within 2 20 (drop i (with-bytes bs at ys)) (omega arith)) ∙ ap (number-of 2) same ∙ number-within 2 20 (drop i bs) (omega arith),
+      sym (thing-within (drop i (with-bytes bs at ys))) ∙ ap (thing-in call-row) same ∙ thing-within (drop i bs),
+    )
+
+pub empty : Empty
+empty n at = ap (number-of 2) (drop-replicate {X = ℕ} at n 0) ∙ zeros 2 (n - at)
+
+pub has-row : Has-row
+has-row l n c a t q = storable l a n c (and-from (not (asks c)) (eqb (turned l n c) 0) (ap not q) (eq-eqb (turned l n c) 0 t))

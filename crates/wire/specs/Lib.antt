@@ -3,3 +3,4 @@ pub mod Bytes
 pub mod Meaning
 pub mod Format
 pub mod JournalRow
+pub mod Answered

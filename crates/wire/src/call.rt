@@ -1,10 +1,30 @@
-// What the bank is told and asked: each call with its numbers, and the row of bytes that it is.
+// What the bank is told and asked, and a call as a row of bytes: a byte, and numbers of eight bytes each, low byte first.
+//
+// | byte | call | numbers |
+// |---|---|---|
+// | 0 | open | limit, rate |
+// | 1 | rate | account, rate |
+// | 2 | move | value day, from, to, amount |
+// | 3 | take back | booking |
+// | 4 | day ends | |
+// | 5 | balance | account, value day, day at whose end it is known |
+// | 6 | statement | account, first day, last day |
+// | 7 | sums | |
+// | 8 | taken | |
 ghost use mathlib.Core.Path.{_≡_};
 ghost use mathlib.Core.List.{_++_};
 ghost use Prim.Native.Nat.{_-_, _<_};
 ghost use lib.ListN.{length, replicate};
-ghost use Rattle.wire.specs.Format.{call-fields, call-number, call-of};
-ghost use Rattle.wire.specs.Meaning.{meant};
+ghost use Rattle.std.specs.declared.result.Result.the-variants.{Ok, Err};
+ghost use Rattle.wire.specs.Bytes.{Wrote};
+ghost use Rattle.wire.specs.Format.{Always-readable, Examples, One-row, Own-row, Reads-back, Reads-first, begins, call-fields, call-number, call-of, fails, first-call, read-call, written-call};
+ghost use Rattle.wire.specs.Meaning.{meant, received};
+use crate::bytes::eights;
+use crate::bytes::numbers_at;
+use crate::bytes::write_form;
+
+// How many numbers follow the byte that a call begins with.
+const FIELDS: [usize; 9] = [2, 2, 4, 1, 0, 3, 3, 0, 0];
 
 #[derive(Clone, Copy)]
 pub enum Call {
@@ -122,4 +142,57 @@ impl Call {
             _ => Call::Taken,
         }
     }
+}
+
+// The call that bytes begin with and the bytes behind it, or the first byte that does not fit.
+pub fn read_first(bytes: &[u8]) -> Result<(Call, &[u8]), usize>
+    ensures { λ r. ⌜ elim r [ Ok p ↦ first-call (now (bytes .entry)) ≡ begins (meant (p .0)) (now (p .1)) | Err k ↦ first-call (now (bytes .entry)) ≡ fails k ] ⌝ }
+{
+    let Some((number, rest)) = bytes.split_first() else {
+        return Err(0);
+    };
+    if *number > 8 {
+        return Err(0);
+    }
+    let count = FIELDS[*number as usize];
+    if rest.len() < 8 * count {
+        return Err(bytes.len());
+    }
+    let fields = numbers_at(rest, 0, eights(count));
+    Ok((Call::from_fields(*number, &fields), &rest[8 * count..]))
+}
+
+// The call that a row of bytes is, or the first byte that does not fit.
+pub fn read_call(bytes: &[u8]) -> Result<Call, usize>
+    ensures { λ r. ⌜ received r ≡ read-call (now (bytes .entry)) ⌝ }
+{
+    match read_first(bytes) {
+        Ok((call, rest)) => {
+            if rest.len() > 0 {
+                return Err(bytes.len() - rest.len());
+            }
+            Ok(call)
+        }
+        Err(place) => Err(place),
+    }
+}
+
+// Writes the row of a call if there is room, and says how many bytes it has.
+pub fn write_call(out: &mut [u8], call: Call) -> Option<usize>
+    ensures { λ r. ⌜ Wrote (now (out .entry)) (written-call (meant call)) (now (out .exit)) r ⌝ }
+{
+    let number = call.number();
+    write_form(out, number, &call.fields()[0..FIELDS[number as usize]])
+}
+
+// Theorems of the format: what was written is read, and a row that is read as a call is its own.
+pub fn calls_stand() -> u8
+    ensures first { λ _. ⌜ Reads-first ⌝ }
+    ensures back { λ _. ⌜ Reads-back ⌝ }
+    ensures own { λ _. ⌜ Own-row ⌝ }
+    ensures one { λ _. ⌜ One-row ⌝ }
+    ensures readable { λ _. ⌜ Always-readable ⌝ }
+    ensures examples { λ _. ⌜ Examples ⌝ }
+{
+    0
 }
