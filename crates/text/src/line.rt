@@ -15,16 +15,22 @@ ghost use mathlib.Core.Path.{_≡_};
 ghost use mathlib.Core.List.{[]};
 ghost use Prim.Native.Nat.{_+_, _≤_, _<_};
 ghost use lib.ListN.{length, getD};
+ghost use Rattle.std.specs.Of.String.{string-bytes};
+ghost use Rattle.std.specs.Vec.{made};
+ghost use Rattle.wire.specs.Meaning.{meant};
 ghost use Rattle.text.specs.Words.{words};
 ghost use Rattle.std.specs.declared.option.Option.{Option};
 ghost use Rattle.std.specs.declared.option.Option.the-variants.{Some, None};
-ghost use Rattle.text.specs.Lines.{Matched, Row-written, by-forms, call-forms, few-numbers, followed, found, listed, numbers-by, numbers-in, row-in, row-of-numbers};
+ghost use Rattle.text.specs.Lines.{Matched, Row-written, by-forms, call-forms, call-line, few-numbers, followed, found, listed, numbers-by, numbers-in, row-in, row-of-numbers};
 use crate::numbers::MOST;
 use crate::numbers::Numbers;
 use crate::word::first_word;
 use crate::word::is_same;
 use crate::word::number_in;
+use std::alloc::AllocError;
+use std::alloc::Global;
 use wire::bytes::put_numbers;
+use wire::call::Call;
 
 // The form of a call's line in words; a mark stands for a number.
 fn form(number: u8) -> &'static [u8]
@@ -139,4 +145,34 @@ pub fn read_line(line: &[u8], row: &mut [u8; 65]) -> Option<usize>
     ensures { λ r. ⌜ Row-written (row-in (now (line .entry))) (now (row .entry)) (now (row .exit)) r ⌝ }
 {
     put_row(numbers_in(line)?, row)
+}
+
+// The line of a call in words.
+pub fn write_call(heap: Global, call: Call) -> Result<String, AllocError>
+    ensures { λ r. ⌜ made r (λ s. string-bytes s ≡ call-line (meant call)) ⌝ }
+{
+    match call {
+        Call::Open { limit, rate } => format!(heap, "open {limit} {rate}"),
+        Call::Rate { account, rate } => format!(heap, "rate {account} {rate}"),
+        Call::Move {
+            value,
+            from,
+            to,
+            amount,
+        } => format!(heap, "move {value} from {from} to {to} {amount}"),
+        Call::TakeBack { booking } => format!(heap, "take back {booking}"),
+        Call::DayEnds => String::from_str(heap, "day ends"),
+        Call::Balance {
+            account,
+            value,
+            known,
+        } => format!(heap, "balance {account} {value} {known}"),
+        Call::Statement {
+            account,
+            first,
+            last,
+        } => format!(heap, "statement {account} {first} {last}"),
+        Call::Sums => String::from_str(heap, "sums"),
+        Call::Taken => String::from_str(heap, "taken"),
+    }
 }
