@@ -3,3 +3,5 @@ pub mod Digits
 pub mod Forms
 pub mod Counts
 pub mod Rows
+pub mod Spelled
+pub mod Back

@@ -14,7 +14,10 @@ use Rattle.bank.specs.Book.{pick}
 use Rattle.bank.specs.Calls.{Call as Meant}
 use Rattle.device.specs.Rows.{numbers, with-bytes}
 use Rattle.wire.specs.Bytes.{eights, form}
-use Rattle.wire.specs.Format.{call-fields, call-number}
+use Rattle.bank.specs.Promise.{carries, readable}
+use Rattle.wire.specs.declared.call.Call.{Call}
+use Rattle.wire.specs.Format.{call-fields, call-number, written-call}
+use Rattle.wire.specs.Meaning.{meant}
 use Rattle.text.specs.Words.{number-in, spelled, words}
 use Rattle.text.specs.declared.numbers.Numbers.{Numbers}
 
@@ -96,6 +99,19 @@ number-line ns = spelled (map decimal ns)
 abbrev pub row-numbers : List ℕ → List ℕ
 row-numbers [] = []
 row-numbers (t ∷ bs) = t ∷ numbers (eights (length bs / 8)) bs
+
+-- reading the line of a call in words gives the call's row, for every call that its fields can carry
+abbrev pub Reads-words : Type 0
+Reads-words = (c : Call) → readable (meant c) ≡ true → row-in (call-line (meant c)) ≡ Some (written-call (meant c))
+
+-- can eight bytes carry each
+abbrev pub all-carried : List ℕ → Bool
+all-carried [] = true
+all-carried (n ∷ ns) = carries n && all-carried ns
+
+-- and reading a line of numbers gives the row that they are
+abbrev pub Reads-numbers : Type 0
+Reads-numbers = (t : ℕ) (ns : List ℕ) → t < 256 → all-carried ns ≡ true → length ns ≤ 8 → row-in (number-line (t ∷ ns)) ≡ Some (form t ns)
 
 -- what the code's numbers are
 abbrev pub listed : Numbers → List ℕ
