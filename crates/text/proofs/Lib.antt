@@ -5,3 +5,4 @@ pub mod Counts
 pub mod Rows
 pub mod Spelled
 pub mod Back
+pub mod Numerals

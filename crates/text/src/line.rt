@@ -21,7 +21,7 @@ ghost use Rattle.wire.specs.Meaning.{meant};
 ghost use Rattle.text.specs.Words.{words};
 ghost use Rattle.std.specs.declared.option.Option.{Option};
 ghost use Rattle.std.specs.declared.option.Option.the-variants.{Some, None};
-ghost use Rattle.text.specs.Lines.{Matched, Row-written, by-forms, call-forms, call-line, few-numbers, followed, found, listed, numbers-by, numbers-in, row-in, row-of-numbers};
+ghost use Rattle.text.specs.Lines.{Matched, Reads-numbers, Reads-words, Row-written, by-forms, call-forms, call-line, few-numbers, followed, found, listed, numbers-by, numbers-in, row-in, row-of-numbers};
 use crate::numbers::MOST;
 use crate::numbers::Numbers;
 use crate::word::first_word;
@@ -175,4 +175,12 @@ pub fn write_call(heap: Global, call: Call) -> Result<String, AllocError>
         Call::Sums => String::from_str(heap, "sums"),
         Call::Taken => String::from_str(heap, "taken"),
     }
+}
+
+// What is read is what was written: a call in words, and any row as numbers.
+pub fn lines_stand() -> u8
+    ensures words { λ _. ⌜ Reads-words ⌝ }
+    ensures numbers { λ _. ⌜ Reads-numbers ⌝ }
+{
+    0
 }
