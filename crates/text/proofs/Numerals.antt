@@ -1,15 +1,20 @@
 -- Laws of lines of the numbers of a row.
 use mathlib.Core.Path.{_≡_, refl, sym, ap, _∙_}
+use mathlib.Core.Bool.{true}
 use mathlib.Core.List.{List, [], _∷_, _++_, map}
 use Prim.Native.Nat.{ℕ, zero, suc, _+_, _-_, _*_, _/_, _≤_, _<_}
 use native.Mathlib.Omega.{arith}
 use lib.ListN.{length, getD, drop}
 use Rattle.std.specs.Written.{decimal}
-use Rattle.std.proofs.shelf.Lists.{drop-drop, map-push}
-use Rattle.device.specs.Rows.{number-of, numbers}
+use Rattle.std.proofs.shelf.Lists.{append-nil, drop-drop, map-push}
+use Rattle.std.proofs.shelf.Tests.{and-from, and-parts}
+use Rattle.bank.specs.Promise.{carries}
+use Rattle.device.specs.Rows.{bytes-of, fits-in, number-of, numbers, row}
+use Rattle.device.proofs.Rows.{row-back, row-length}
 use Rattle.wire.specs.Bytes.{eights}
-use Rattle.text.specs.Words.{spelled}
-use Rattle.text.specs.Lines.{number-line, row-numbers}
+use Rattle.wire.proofs.Numbers.{width-eights}
+use Rattle.text.specs.Words.{spelled, words-on}
+use Rattle.text.specs.Lines.{Examples, Told-numbers, all-carried, all-numbers, by-forms, number-line, numbers-by, row-numbers}
 use Rattle.text.proofs.Spelled.{spelled-more}
 
 -- eight bytes more
@@ -43,3 +48,21 @@ line-all [] i h e = absurd (omega arith)
 line-all (t ∷ bs) i h e =
     let behind : length {A = ℕ} (t ∷ bs) - 1 ≡ length bs = omega arith in
     ap (λ k. number-line (t ∷ numbers (eights k) bs)) (e ∙ ap (λ n. n / 8) behind)
+
+-- numbers that eight bytes can carry, as a row and back
+carried : (ns : List ℕ) → all-carried ns ≡ true → fits-in (eights (length ns)) ns ≡ true
+unfolding fits-in
+carried [] h = refl
+carried (n ∷ ns) h = let p = and-parts (carries n) (all-carried ns) h in and-from (carries n) (fits-in (eights (length ns)) ns) (p .0) (carried ns (p .1))
+
+pub told-back : Told-numbers
+told-back t ns h =
+    let ks : List ℕ = eights (length ns) in
+    let long : length (row ks ns) / 8 ≡ length ns = omega (arith, row-length ks ns, width-eights (length ns)) in
+    ap (λ k. t ∷ numbers (eights k) (row ks ns)) long
+    ∙ ap (λ bs. t ∷ numbers ks bs) (sym (append-nil (row ks ns)))
+    ∙ ap (λ x. t ∷ x) (row-back ks ns [] (carried ns h))
+
+pub examples : Examples
+unfolding words-on numbers-by by-forms all-numbers row bytes-of
+examples = (refl, refl, refl, refl, refl, refl, refl, refl, refl)

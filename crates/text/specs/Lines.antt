@@ -113,6 +113,17 @@ all-carried (n ∷ ns) = carries n && all-carried ns
 abbrev pub Reads-numbers : Type 0
 Reads-numbers = (t : ℕ) (ns : List ℕ) → t < 256 → all-carried ns ≡ true → length ns ≤ 8 → row-in (number-line (t ∷ ns)) ≡ Some (form t ns)
 
+-- and the numbers of a row are those that it was written from
+abbrev pub Told-numbers : Type 0
+Told-numbers = (t : ℕ) (ns : List ℕ) → all-carried ns ≡ true → row-numbers (form t ns) ≡ t ∷ ns
+
+-- lines and the rows that they stand for
+abbrev pub Examples : Type 0
+Examples =
+    (row-in (codes "day ends") ≡ Some (4 ∷ [])) × (row-in (codes "take back 258") ≡ Some (3 ∷ 2 ∷ 1 ∷ 0 ∷ 0 ∷ 0 ∷ 0 ∷ 0 ∷ 0 ∷ []))
+    × (row-in (codes " 3  258 ") ≡ Some (3 ∷ 2 ∷ 1 ∷ 0 ∷ 0 ∷ 0 ∷ 0 ∷ 0 ∷ 0 ∷ [])) × (row-in (codes "255") ≡ Some (255 ∷ [])) × (row-in (codes "256") ≡ None)
+    × (row-in [] ≡ None) × (row-in (codes "take back") ≡ None) × (row-in (codes "take back 1 2") ≡ None) × (row-in (codes "sum") ≡ None)
+
 -- what the code's numbers are
 abbrev pub listed : Numbers → List ℕ
 listed n = take (n .count) (n .list)

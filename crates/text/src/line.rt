@@ -21,7 +21,7 @@ ghost use Rattle.wire.specs.Meaning.{meant};
 ghost use Rattle.text.specs.Words.{words};
 ghost use Rattle.std.specs.declared.option.Option.{Option};
 ghost use Rattle.std.specs.declared.option.Option.the-variants.{Some, None};
-ghost use Rattle.text.specs.Lines.{Matched, Reads-numbers, Reads-words, Row-written, by-forms, call-forms, call-line, few-numbers, followed, found, listed, numbers-by, numbers-in, row-in, row-of-numbers};
+ghost use Rattle.text.specs.Lines.{Examples, Matched, Reads-numbers, Reads-words, Row-written, Told-numbers, by-forms, call-forms, call-line, few-numbers, followed, found, listed, numbers-by, numbers-in, row-in, row-of-numbers};
 use crate::numbers::MOST;
 use crate::numbers::Numbers;
 use crate::word::first_word;
@@ -31,6 +31,12 @@ use std::alloc::AllocError;
 use std::alloc::Global;
 use wire::bytes::put_numbers;
 use wire::call::Call;
+
+// The most bytes that a row can have that a line stands for: a byte, and eight for each number behind it.
+pub const LONGEST: usize = 65;
+
+// How many forms there are.
+const FORMS: u8 = 9;
 
 // The form of a call's line in words; a mark stands for a number.
 fn form(number: u8) -> &'static [u8]
@@ -90,7 +96,7 @@ fn numbers_by(number: u8, form: &[u8], line: &[u8]) -> Option<Numbers>
 fn in_words(line: &[u8]) -> Option<Numbers>
     ensures { λ r. ⌜ found r ≡ by-forms 0 call-forms (words (now (line .entry))) ⌝ }
 {
-    for number in 0..9 {
+    for number in 0..FORMS {
         if let Some(numbers) = numbers_by(number, form(number), line) {
             return Some(numbers);
         }
@@ -126,7 +132,7 @@ fn numbers_in(line: &[u8]) -> Option<Numbers>
 }
 
 // Writes the row of some numbers: the first as a byte, and eight bytes for each other.
-fn put_row(numbers: Numbers, row: &mut [u8; 65]) -> Option<usize>
+fn put_row(numbers: Numbers, row: &mut [u8; LONGEST]) -> Option<usize>
     ensures { λ r. ⌜ Row-written (row-of-numbers (Some (listed numbers))) (now (row .entry)) (now (row .exit)) r ⌝ }
 {
     if numbers.count == 0 {
@@ -137,11 +143,16 @@ fn put_row(numbers: Numbers, row: &mut [u8; 65]) -> Option<usize>
     }
     row[0] = numbers.list[0] as u8;
     let widths = [8; 8];
-    Some(put_numbers(row, 1, &widths[0..numbers.count - 1], &numbers.list[1..numbers.count]))
+    Some(put_numbers(
+        row,
+        1,
+        &widths[0..numbers.count - 1],
+        &numbers.list[1..numbers.count],
+    ))
 }
 
 // Writes the row of bytes that a line stands for at the beginning of `row`, and says how many bytes it has; none where a line stands for no row.
-pub fn read_line(line: &[u8], row: &mut [u8; 65]) -> Option<usize>
+pub fn read_line(line: &[u8], row: &mut [u8; LONGEST]) -> Option<usize>
     ensures { λ r. ⌜ Row-written (row-in (now (line .entry))) (now (row .entry)) (now (row .exit)) r ⌝ }
 {
     put_row(numbers_in(line)?, row)
@@ -181,6 +192,8 @@ pub fn write_call(heap: Global, call: Call) -> Result<String, AllocError>
 pub fn lines_stand() -> u8
     ensures words { λ _. ⌜ Reads-words ⌝ }
     ensures numbers { λ _. ⌜ Reads-numbers ⌝ }
+    ensures told { λ _. ⌜ Told-numbers ⌝ }
+    ensures examples { λ _. ⌜ Examples ⌝ }
 {
     0
 }

@@ -10,8 +10,8 @@ pub const MOST: usize = 9;
 // The numbers of a line, in their order: the first `count` of `list`.
 #[derive(Clone, Copy)]
 pub struct Numbers {
-    pub(crate) list: [u64; 9],
-    pub(crate) count: usize,
+    pub list: [u64; MOST],
+    pub count: usize,
     ghost few: { count ≤ 9 },
 }
 
@@ -21,7 +21,7 @@ impl Numbers {
         ensures { λ r. ⌜ r .count ≡ 0 ⌝ }
     {
         Numbers {
-            list: [0; 9],
+            list: [0; MOST],
             count: 0,
         }
     }
