@@ -21,7 +21,7 @@ fn push_number(heap: Global, line: &mut String, n: u64) -> Result<(), AllocError
 
 // The line of an answer's bytes, or of any row: the first byte, and each eight bytes behind it as a number; fewer than eight at the end are left out, and the
 // line of no bytes is empty.
-pub fn write_answer(heap: Global, answer: &[u8]) -> Result<String, AllocError>
+pub fn write_answer_line(heap: Global, answer: &[u8]) -> Result<String, AllocError>
     ensures { λ r. ⌜ made r (λ s. string-bytes s ≡ number-line (row-numbers (now (answer .entry)))) ⌝ }
 {
     if answer.is_empty() {
@@ -36,7 +36,7 @@ pub fn write_answer(heap: Global, answer: &[u8]) -> Result<String, AllocError>
 }
 
 // Why a call is turned away by a number.
-pub fn reason(number: u64) -> &'static str
+pub fn refusal_words(number: u64) -> &'static str
     ensures { λ r. ⌜ now r ≡ getD reasons number unknown ⌝ }
 {
     if number > 10 {

@@ -1,6 +1,8 @@
-// Lines of calls: in words, by the forms below, or as numbers.
+// Lines of calls. The words of a line stand between blanks: spaces, tabs and carriage returns, as many as there are, at its ends too. A number is decimal digits,
+// of a value below 2^64. A line of numbers stands for a row of bytes: the first number, below 256, is its first byte, and up to eight others are eight bytes
+// each, low byte first; so it can also be a row that is no call. A line in words stands for the row of its call:
 //
-// | byte | line in words |
+// | byte | line |
 // |---|---|
 // | 0 | open LIMIT RATE |
 // | 1 | rate ACCOUNT RATE |

@@ -1,11 +1,11 @@
 // Answers as lines of numbers, and the reasons of refusals.
 use std::alloc::Global;
 use std::test::*;
-use text::answer::reason;
-use text::answer::write_answer;
+use text::answer::refusal_words;
+use text::answer::write_answer_line;
 
 fn told(heap: Global, answer: &[u8], line: &str) -> Result<(), Fail> {
-    let written = write_answer(heap, answer)?;
+    let written = write_answer_line(heap, answer)?;
     check_eq(written.as_str(), line)
 }
 
@@ -39,10 +39,10 @@ fn a_statement(rt: LibcRuntime) -> Result<(), Fail> {
 
 #[test]
 fn reasons() -> Result<(), Fail> {
-    check_eq(reason(0), "not known")?;
-    check_eq(reason(1), "the call cannot be read")?;
-    check_eq(reason(7), "not enough on the account")?;
-    check_eq(reason(10), "the book has no room for it")?;
-    check_eq(reason(11), "not known")?;
-    check_eq(reason(u64::MAX), "not known")
+    check_eq(refusal_words(0), "not known")?;
+    check_eq(refusal_words(1), "the call cannot be read")?;
+    check_eq(refusal_words(7), "not enough on the account")?;
+    check_eq(refusal_words(10), "the book has no room for it")?;
+    check_eq(refusal_words(11), "not known")?;
+    check_eq(refusal_words(u64::MAX), "not known")
 }

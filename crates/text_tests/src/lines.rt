@@ -69,36 +69,44 @@ fn lines_of_numbers() -> Result<(), Fail> {
     )
 }
 
+// Lines that stand for no row.
+const NO_ROWS: [&str; 28] = [
+    "",
+    "  \t\r",
+    "256",
+    "1 18446744073709551616",
+    "1 99999999999999999999",
+    "1 2 3 4 5 6 7 8 9 10",
+    "+1",
+    "-1",
+    "1.5",
+    "1,2",
+    "1 two",
+    "0x10",
+    "open",
+    "open 5000",
+    "open 5000 365 1",
+    "open # #",
+    "Open 5000 365",
+    "opens 5000 365",
+    "open 5000 18446744073709551616",
+    "move 0 2 3 400000",
+    "move 0 to 3 from 2 400000",
+    "take 1",
+    "takeback 1",
+    "day",
+    "days end",
+    "sums 1",
+    "taken.",
+    "\0",
+];
+
 #[test]
 fn lines_of_no_row() -> Result<(), Fail> {
-    unread(b"")?;
-    unread(b"  \t\r")?;
-    unread(b"256")?;
-    unread(b"1 18446744073709551616")?;
-    unread(b"1 99999999999999999999")?;
-    unread(b"1 2 3 4 5 6 7 8 9 10")?;
-    unread(b"+1")?;
-    unread(b"-1")?;
-    unread(b"1.5")?;
-    unread(b"1,2")?;
-    unread(b"1 two")?;
-    unread(b"0x10")?;
-    unread(b"open")?;
-    unread(b"open 5000")?;
-    unread(b"open 5000 365 1")?;
-    unread(b"open # #")?;
-    unread(b"Open 5000 365")?;
-    unread(b"opens 5000 365")?;
-    unread(b"open 5000 18446744073709551616")?;
-    unread(b"move 0 2 3 400000")?;
-    unread(b"move 0 to 3 from 2 400000")?;
-    unread(b"take 1")?;
-    unread(b"takeback 1")?;
-    unread(b"day")?;
-    unread(b"days end")?;
-    unread(b"sums 1")?;
-    unread(b"taken.")?;
-    unread(b"\0")
+    for line in &NO_ROWS {
+        unread(line.as_bytes())?;
+    }
+    Ok(())
 }
 
 // A call is written as a line, and that is read as the call's own row.

@@ -6,7 +6,7 @@ use lib.ListN.{drop, getD, length}
 use borrow.Author.Tests.{eqb-false}
 use Rattle.std.specs.Written.{decimal}
 use Rattle.text.proofs.Numerals.{line-all, line-more, line-none}
-use Rattle.text.proofs.answer.write_answer.Needs as need
+use Rattle.text.proofs.answer.write_answer_line.Needs as need
 
 pub loop-i-holds : need.loop-i-holds
 loop-i-holds c = c .in-Continue-line .ensures tt .made ∙ sym (line-none (getD (c .args .answer .now) 0 0) (drop 1 (c .args .answer .now)))

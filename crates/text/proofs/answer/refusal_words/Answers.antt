@@ -1,7 +1,7 @@
 use mathlib.Core.Path.{sym, ap}
 use lib.ListN.{getD}
 use Rattle.text.specs.Reasons.{reasons, unknown}
-use Rattle.text.proofs.answer.reason.Needs as need
+use Rattle.text.proofs.answer.refusal_words.Needs as need
 
 pub returns-in-1 : need.returns-in-1
 returns-in-1 c = ap (λ k. getD reasons k unknown) (sym (c .in-1 .is))

@@ -5,7 +5,7 @@ use Rattle.std.specs.Of.String.{string-bytes}
 use Rattle.device.specs.Rows.{numbers}
 use Rattle.wire.specs.Bytes.{eights}
 use Rattle.text.specs.Lines.{number-line}
-use Rattle.text.proofs.answer.write_answer.Given as given
+use Rattle.text.proofs.answer.write_answer_line.Given as given
 
 -- the first byte and i numbers are written
 abbrev pub Inv-loop-i : given.InvT-loop-i
