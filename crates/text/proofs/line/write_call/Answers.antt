@@ -9,11 +9,11 @@ use Rattle.text.proofs.line.write_call.Needs as need
 
 pub returns-in-Open : need.returns-in-Open
 unfolding words-on
-returns-in-Open c = search needs
+returns-in-Open c = subst (λ x. made (c .format .result) (λ s. string-bytes s ≡ call-line (meant x))) (sym (c .in-Open .is)) (c .format .ensures .made)
 
 pub returns-in-Rate : need.returns-in-Rate
 unfolding words-on
-returns-in-Rate c = search needs
+returns-in-Rate c = subst (λ x. made (c .format-in-Rate .result) (λ s. string-bytes s ≡ call-line (meant x))) (sym (c .in-Rate .is)) (c .format-in-Rate .ensures .made)
 
 pub returns-in-Move : need.returns-in-Move
 unfolding words-on
@@ -21,7 +21,7 @@ returns-in-Move c = subst (λ x. made (c .format-in-Move .result) (λ s. string-
 
 pub returns-in-TakeBack : need.returns-in-TakeBack
 unfolding words-on
-returns-in-TakeBack c = search needs
+returns-in-TakeBack c = subst (λ x. made (c .format-in-TakeBack .result) (λ s. string-bytes s ≡ call-line (meant x))) (sym (c .in-TakeBack .is)) (c .format-in-TakeBack .ensures .made)
 
 pub returns-in-DayEnds : need.returns-in-DayEnds
 unfolding words-on
@@ -33,7 +33,7 @@ returns-in-Balance c = search needs
 
 pub returns-in-Statement : need.returns-in-Statement
 unfolding words-on
-returns-in-Statement c = search needs
+returns-in-Statement c = subst (λ x. made (c .format-in-Statement .result) (λ s. string-bytes s ≡ call-line (meant x))) (sym (c .in-Statement .is)) (c .format-in-Statement .ensures .made)
 
 pub returns-in-Sums : need.returns-in-Sums
 unfolding words-on
