@@ -18,7 +18,7 @@ use Rattle.std.proofs.shelf.Lists.{at-drop-more, length-map}
 use Rattle.std.proofs.shelf.Tests.{and-from, and-left, and-parts}
 use Rattle.bank.specs.Book.{pick}
 use Rattle.bank.specs.Promise.{carries, readable}
-use Rattle.model.proofs.Taken.{never}
+use Rattle.bank.proofs.Limited.{never}
 use Rattle.wire.specs.Bytes.{form}
 use Rattle.wire.specs.Format.{written-call}
 use Rattle.wire.specs.Meaning.{meant}

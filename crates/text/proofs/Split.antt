@@ -9,7 +9,7 @@ use lib.Dec.{eqb}
 use lib.ListN.{length, getD, take, drop}
 use borrow.Author.Tests.{eqb-true, eqb-false}
 use Rattle.std.proofs.shelf.Lists.{at-drop-more, at-drop-all, getD-drop, length-drop, length-take, nil-from-length, take-more}
-use Rattle.model.proofs.Taken.{never}
+use Rattle.bank.proofs.Limited.{never}
 use Rattle.text.specs.Words.{blank, ended, words, words-on}
 
 -- a blank in front, and a byte of a word
