@@ -1,0 +1,4 @@
+pub mod Answers
+pub mod Saying
+pub mod Runs
+pub mod Sameness

@@ -1,0 +1,75 @@
+// A session's life on the simulated device: calls are carried out until a budget of acts is used up; then power is lost.
+ghost use mathlib.Core.Path.{_≡_};
+ghost use mathlib.Core.List.{List, []};
+ghost use Prim.Native.Nat.{ℕ, _+_, _*_, _-_, _/_, _≤_, _<_};
+ghost use lib.ListN.{length, take};
+ghost use Rattle.device.specs.Device.{write as written};
+ghost use Rattle.bank.specs.Calls.{Answer};
+ghost use Rattle.sim.specs.Held.{done};
+ghost use Rattle.sim.specs.Sims.{holds, room, Sound};
+ghost use Rattle.session.specs.Session.{left, Ready, Same};
+ghost use Rattle.life.specs.Life.{world, after-acts, space, Acted, Fits, Fits-on, Listens};
+use heard::Heard;
+use heard::first;
+use session::Next;
+use session::Session;
+use sim::Unflushed;
+
+mod heard;
+
+// Keeps a write for which there is room.
+fn keep(unflushed: &mut Unflushed, image: &[u8], k: u64, block: &[u8])
+    requires sound { ⌜ Sound (now image) (now unflushed) ⌝ }
+    requires room { ⌜ now unflushed .count < room (now unflushed) ⌝ }
+    requires there { ⌜ k < length (now image) / 512 ⌝ }
+    requires whole { ⌜ length (now block) ≡ 512 ⌝ }
+    ensures held { λ _. ⌜ holds (now (image .entry)) (now (unflushed .exit)) ≡ done {A = Answer} (holds (now (image .entry)) (now (unflushed .entry))) (written k (now (block .entry))) ⌝ }
+    ensures sound { λ _. ⌜ Sound (now (image .entry)) (now (unflushed .exit)) ⌝ }
+    ensures room { λ _. ⌜ room (now (unflushed .exit)) ≡ room (now (unflushed .entry)) ⌝ }
+    ensures count { λ _. ⌜ now (unflushed .exit) .count ≡ now (unflushed .entry) .count + 1 ⌝ }
+{
+    unflushed.write(image, k, block);
+}
+
+// Does the next act, if there is one.
+fn act(session: &mut Session, unflushed: &mut Unflushed, image: &mut [u8], heard: &mut Heard) -> bool
+    requires ready { ⌜ Ready (now session) ⌝ }
+    requires sound { ⌜ Sound (now image) (now unflushed) ⌝ }
+    requires listens { ⌜ Listens (now heard) ⌝ }
+    requires fits { ⌜ Fits 0 (space (now image) (now unflushed) (now heard)) (left (now session)) ⌝ }
+    ensures acted { λ r. ⌜ Acted r (left (now (session .entry))) (left (now (session .exit))) (world (now (image .entry)) (now (unflushed .entry)) (now (heard .entry))) (world (now (image .exit)) (now (unflushed .exit)) (now (heard .exit))) ⌝ }
+    ensures same { λ _. ⌜ Same (now (session .entry)) (now (session .exit)) ⌝ }
+    ensures sound { λ _. ⌜ Sound (now (image .exit)) (now (unflushed .exit)) ⌝ }
+    ensures listens { λ _. ⌜ Listens (now (heard .exit)) ⌝ }
+    ensures room { λ _. ⌜ room (now (unflushed .exit)) ≡ room (now (unflushed .entry)) ⌝ }
+    ensures fits { λ _. ⌜ Fits-on (space (now (image .entry)) (now (unflushed .entry)) (now (heard .entry))) (left (now (session .entry))) (space (now (image .exit)) (now (unflushed .exit)) (now (heard .exit))) (left (now (session .exit))) ⌝ }
+{
+    match session.next_act() {
+        Next::Write(k) => keep(unflushed, image, k, session.block()),
+        Next::Flush => unflushed.flush(image),
+        Next::Say(n) => heard.hear(first(session.answer_bytes(), n)),
+        Next::Done => return false,
+    }
+    true
+}
+
+// Does what is to be done, as far as the budget of acts goes, and says how much of it is left.
+fn finish(session: &mut Session, unflushed: &mut Unflushed, image: &mut [u8], heard: &mut Heard, budget: u64) -> u64
+    requires ready { ⌜ Ready (now session) ⌝ }
+    requires sound { ⌜ Sound (now image) (now unflushed) ⌝ }
+    requires listens { ⌜ Listens (now heard) ⌝ }
+    requires fits { ⌜ Fits 0 (space (now image) (now unflushed) (now heard)) (left (now session)) ⌝ }
+    ensures left { λ r. ⌜ r ≡ budget - length (left (now (session .entry))) ⌝ }
+    ensures world { λ _. ⌜ world (now (image .exit)) (now (unflushed .exit)) (now (heard .exit)) ≡ after-acts (world (now (image .entry)) (now (unflushed .entry)) (now (heard .entry))) (take budget (left (now (session .entry)))) ⌝ }
+    ensures same { λ _. ⌜ Same (now (session .entry)) (now (session .exit)) ⌝ }
+    ensures sound { λ _. ⌜ Sound (now (image .exit)) (now (unflushed .exit)) ⌝ }
+    ensures listens { λ _. ⌜ Listens (now (heard .exit)) ⌝ }
+    ensures room { λ _. ⌜ room (now (unflushed .exit)) ≡ room (now (unflushed .entry)) ⌝ }
+    ensures rests { λ r. ⌜ (0 < r → Fits-on (space (now (image .entry)) (now (unflushed .entry)) (now (heard .entry))) (left (now (session .entry))) (space (now (image .exit)) (now (unflushed .exit)) (now (heard .exit))) []) ⌝ }
+{
+    let mut left = budget;
+    while left > 0 && act(session, unflushed, image, heard) {
+        left -= 1;
+    }
+    left
+}
