@@ -2,3 +2,4 @@ pub mod Answers
 pub mod Saying
 pub mod Runs
 pub mod Sameness
+pub mod Calling

@@ -3,12 +3,15 @@ ghost use mathlib.Core.Path.{_≡_};
 ghost use mathlib.Core.List.{List, []};
 ghost use Prim.Native.Nat.{ℕ, _+_, _*_, _-_, _/_, _≤_, _<_};
 ghost use lib.ListN.{length, take};
-ghost use Rattle.device.specs.Device.{write as written};
+ghost use Rattle.device.specs.Device.{write as written, acts};
 ghost use Rattle.bank.specs.Calls.{Answer};
+ghost use Rattle.bank.specs.Promise.{room as blocks-for};
+ghost use Rattle.model.specs.First.{first-program};
+ghost use Rattle.ledger.specs.Meaning.{limits};
 ghost use Rattle.sim.specs.Held.{done};
 ghost use Rattle.sim.specs.Sims.{holds, room, Sound};
-ghost use Rattle.session.specs.Session.{left, Ready, Same};
-ghost use Rattle.life.specs.Life.{world, after-acts, space, Acted, Fits, Fits-on, Listens};
+ghost use Rattle.session.specs.Session.{left, memory, Ready, Same};
+ghost use Rattle.life.specs.Life.{world, after-acts, space, Acted, Fits, Fits-on, Listens, free-in, rows-read};
 use heard::Heard;
 use heard::first;
 use session::Next;
@@ -72,4 +75,26 @@ fn finish(session: &mut Session, unflushed: &mut Unflushed, image: &mut [u8], he
         left -= 1;
     }
     left
+}
+
+// Carries out calls, one after another, as far as the budget of acts goes.
+fn live(session: &mut Session, unflushed: &mut Unflushed, image: &mut [u8], heard: &mut Heard, calls: &[&[u8]], budget: u64)
+    requires ready { ⌜ Ready (now session) ⌝ }
+    requires device { ⌜ blocks-for (limits (now session .ledger)) ≤ length (now image) / 512 ⌝ }
+    requires sound { ⌜ Sound (now image) (now unflushed) ⌝ }
+    requires rests { ⌜ now unflushed .count ≡ 0 ⌝ }
+    requires room { ⌜ 0 < room (now unflushed) ⌝ }
+    requires listens { ⌜ Listens (now heard) ⌝ }
+    requires free { ⌜ 17 * length (now calls) ≤ free-in (now heard) ⌝ }
+    ensures world { λ _. ⌜ world (now (image .exit)) (now (unflushed .exit)) (now (heard .exit)) ≡ after-acts (world (now (image .entry)) (now (unflushed .entry)) (now (heard .entry))) (take budget (acts (first-program (limits (now (session .entry) .ledger))) (memory (now (session .entry))) (rows-read (now (calls .entry))))) ⌝ }
+    ensures sound { λ _. ⌜ Sound (now (image .exit)) (now (unflushed .exit)) ⌝ }
+{
+    let mut left = budget;
+    for row in calls {
+        if left == 0 {
+            return;
+        }
+        session.call(*row);
+        left = finish(session, unflushed, image, heard, left);
+    }
 }
