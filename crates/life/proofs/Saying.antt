@@ -19,15 +19,15 @@ pub said-bytes : (s t : Session) (n : ℕ) (bs rs : List ℕ) → n ≡ s .lengt
     rs ≡ written-answer (answer-of s)
 said-bytes s t n bs rs e b p q r = r ∙ ap (take n) (q ∙ b) ∙ ap (λ (k : ℕ). take k (now (s .bytes))) e ∙ p
 
-module _ (image : List ℕ) (u : Unflushed) (h k : Heard) (s t : Session) (rs : List ℕ) (e : rs ≡ written-answer (answer-of s)) (was : left s ≡ say (answer-of s) ∷ left t) where
-  pub said-world : spoken-in k ≡ spoken-in h ++ rs → k .count ≡ h .count + 1 → world image u k ≡ after-act (world image u h) (say (answer-of s))
+module _ (image : List ℕ) (u : Unflushed) (said also : List ℕ) (h k : Heard) (s t : Session) (rs : List ℕ) (e : rs ≡ written-answer (answer-of s)) (was : left s ≡ say (answer-of s) ∷ left t) where
+  pub said-world : spoken-in also k ≡ spoken-in said h ++ rs → k .answers ≡ h .answers + 1 → world image u also k ≡ after-act (world image u said h) (say (answer-of s))
   unfolding done
   said-world p q =
-      ap (λ (x : List ℕ). record { held = world image u h .held; spoken = x; heard = k .count }) (p ∙ ap (λ (x : List ℕ). spoken-in h ++ x) e)
-      ∙ ap (λ (x : ℕ). record { held = world image u h .held; spoken = spoken-in h ++ written-answer (answer-of s); heard = x }) q
+      ap (λ (x : List ℕ). record { held = world image u said h .held; spoken = x; heard = k .answers }) (p ∙ ap (λ (x : List ℕ). spoken-in said h ++ x) e)
+      ∙ ap (λ (x : ℕ). record { held = world image u said h .held; spoken = spoken-in said h ++ written-answer (answer-of s); heard = x }) q
 
-  pub said-fits : free-in k ≡ free-in h - length rs → Fits-on (space image u h) (left s) (space image u k) (left t)
+  pub said-fits : free-in also k ≡ free-in said h - length rs → Fits-on (space image u said h) (left s) (space image u also k) (left t)
   said-fits p n f =
-      let g : Fits n (space image u h) (say (answer-of s) ∷ left t) = subst (λ (xs : List Act). Fits n (space image u h) xs) was f in
-      let w = space image u h in
-      subst (λ (x : ℕ). Fits n (record { blocks = w .blocks; most = w .most; pending = w .pending; free = x }) (left t)) (sym (p ∙ ap (λ (x : List ℕ). free-in h - length x) e)) (g .1)
+      let g : Fits n (space image u said h) (say (answer-of s) ∷ left t) = subst (λ (xs : List Act). Fits n (space image u said h) xs) was f in
+      let w = space image u said h in
+      subst (λ (x : ℕ). Fits n (record { blocks = w .blocks; most = w .most; pending = w .pending; free = x }) (left t)) (sym (p ∙ ap (λ (x : List ℕ). free-in said h - length x) e)) (g .1)

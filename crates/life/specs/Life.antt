@@ -22,21 +22,21 @@ pub record World : Type 0 where
   pub heard : ℕ
 
 -- the bytes that were heard
-abbrev pub spoken-in : Heard → List ℕ
-spoken-in h = take (h .end) (now (h .bytes))
+abbrev pub spoken-in : List ℕ → Heard → List ℕ
+spoken-in said h = take (h .bytes) said
 
 -- and how many more can be
-abbrev pub free-in : Heard → ℕ
-free-in h = length (now (h .bytes)) - h .end
+abbrev pub free-in : List ℕ → Heard → ℕ
+free-in said h = length said - h .bytes
 
 -- what was heard lies in the lent bytes, and each answer has one at least
-pub record Listens (h : Heard) : Type 0 where
-  pub inside : h .end ≤ length (now (h .bytes))
-  pub counted : h .count ≤ h .end
+pub record Listens (said : List ℕ) (h : Heard) : Type 0 where
+  pub inside : h .bytes ≤ length said
+  pub counted : h .answers ≤ h .bytes
 
 -- the world that an image, the writes that are not safe yet and what was heard are
-abbrev pub world : List ℕ → Unflushed → Heard → World
-world image u h = record { held = holds image u; spoken = spoken-in h; heard = h .count }
+abbrev pub world : List ℕ → Unflushed → List ℕ → Heard → World
+world image u said h = record { held = holds image u; spoken = spoken-in said h; heard = h .answers }
 
 -- the world after an act
 abbrev pub after-act : World → Act → World
@@ -62,8 +62,8 @@ pub record Space : Type 0 where
   pub free : ℕ
 
 -- the room in an image, for writes and for what is heard
-abbrev pub space : List ℕ → Unflushed → Heard → Space
-space image u h = record { blocks = length image / 512; most = room u; pending = u .count; free = free-in h }
+abbrev pub space : List ℕ → Unflushed → List ℕ → Heard → Space
+space image u said h = record { blocks = length image / 512; most = room u; pending = u .count; free = free-in said h }
 
 -- there is room for acts: each write is of a whole block that is there, and can be pending; each answer can be heard; behind them nothing is pending, and n bytes can be heard
 abbrev pub Fits : ℕ → Space → List Act → Type 0

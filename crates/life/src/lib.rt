@@ -35,58 +35,58 @@ fn keep(unflushed: &mut Unflushed, image: &[u8], k: u64, block: &[u8])
 }
 
 // Does the next act, if there is one.
-fn act(session: &mut Session, unflushed: &mut Unflushed, image: &mut [u8], heard: &mut Heard) -> bool
+fn act(session: &mut Session, unflushed: &mut Unflushed, image: &mut [u8], said: &mut [u8], heard: &mut Heard) -> bool
     requires ready { ⌜ Ready (now session) ⌝ }
     requires sound { ⌜ Sound (now image) (now unflushed) ⌝ }
-    requires listens { ⌜ Listens (now heard) ⌝ }
-    requires fits { ⌜ Fits 0 (space (now image) (now unflushed) (now heard)) (left (now session)) ⌝ }
-    ensures acted { λ r. ⌜ Acted r (left (now (session .entry))) (left (now (session .exit))) (world (now (image .entry)) (now (unflushed .entry)) (now (heard .entry))) (world (now (image .exit)) (now (unflushed .exit)) (now (heard .exit))) ⌝ }
+    requires listens { ⌜ Listens (now said) (now heard) ⌝ }
+    requires fits { ⌜ Fits 0 (space (now image) (now unflushed) (now said) (now heard)) (left (now session)) ⌝ }
+    ensures acted { λ r. ⌜ Acted r (left (now (session .entry))) (left (now (session .exit))) (world (now (image .entry)) (now (unflushed .entry)) (now (said .entry)) (now (heard .entry))) (world (now (image .exit)) (now (unflushed .exit)) (now (said .exit)) (now (heard .exit))) ⌝ }
     ensures same { λ _. ⌜ Same (now (session .entry)) (now (session .exit)) ⌝ }
     ensures sound { λ _. ⌜ Sound (now (image .exit)) (now (unflushed .exit)) ⌝ }
-    ensures listens { λ _. ⌜ Listens (now (heard .exit)) ⌝ }
+    ensures listens { λ _. ⌜ Listens (now (said .exit)) (now (heard .exit)) ⌝ }
     ensures room { λ _. ⌜ room (now (unflushed .exit)) ≡ room (now (unflushed .entry)) ⌝ }
-    ensures fits { λ _. ⌜ Fits-on (space (now (image .entry)) (now (unflushed .entry)) (now (heard .entry))) (left (now (session .entry))) (space (now (image .exit)) (now (unflushed .exit)) (now (heard .exit))) (left (now (session .exit))) ⌝ }
+    ensures fits { λ _. ⌜ Fits-on (space (now (image .entry)) (now (unflushed .entry)) (now (said .entry)) (now (heard .entry))) (left (now (session .entry))) (space (now (image .exit)) (now (unflushed .exit)) (now (said .exit)) (now (heard .exit))) (left (now (session .exit))) ⌝ }
 {
     match session.next_act() {
         Next::Write(k) => keep(unflushed, image, k, session.block()),
         Next::Flush => unflushed.flush(image),
-        Next::Say(n) => heard.hear(first(session.answer_bytes(), n)),
+        Next::Say(n) => heard.hear(said, first(session.answer_bytes(), n)),
         Next::Done => return false,
     }
     true
 }
 
 // Does what is to be done, as far as the budget of acts goes, and says how much of it is left.
-fn finish(session: &mut Session, unflushed: &mut Unflushed, image: &mut [u8], heard: &mut Heard, budget: u64) -> u64
+fn finish(session: &mut Session, unflushed: &mut Unflushed, image: &mut [u8], said: &mut [u8], heard: &mut Heard, budget: u64) -> u64
     requires ready { ⌜ Ready (now session) ⌝ }
     requires sound { ⌜ Sound (now image) (now unflushed) ⌝ }
-    requires listens { ⌜ Listens (now heard) ⌝ }
-    requires fits { ⌜ Fits 0 (space (now image) (now unflushed) (now heard)) (left (now session)) ⌝ }
+    requires listens { ⌜ Listens (now said) (now heard) ⌝ }
+    requires fits { ⌜ Fits 0 (space (now image) (now unflushed) (now said) (now heard)) (left (now session)) ⌝ }
     ensures left { λ r. ⌜ r ≡ budget - length (left (now (session .entry))) ⌝ }
-    ensures world { λ _. ⌜ world (now (image .exit)) (now (unflushed .exit)) (now (heard .exit)) ≡ after-acts (world (now (image .entry)) (now (unflushed .entry)) (now (heard .entry))) (take budget (left (now (session .entry)))) ⌝ }
+    ensures world { λ _. ⌜ world (now (image .exit)) (now (unflushed .exit)) (now (said .exit)) (now (heard .exit)) ≡ after-acts (world (now (image .entry)) (now (unflushed .entry)) (now (said .entry)) (now (heard .entry))) (take budget (left (now (session .entry)))) ⌝ }
     ensures same { λ _. ⌜ Same (now (session .entry)) (now (session .exit)) ⌝ }
     ensures sound { λ _. ⌜ Sound (now (image .exit)) (now (unflushed .exit)) ⌝ }
-    ensures listens { λ _. ⌜ Listens (now (heard .exit)) ⌝ }
+    ensures listens { λ _. ⌜ Listens (now (said .exit)) (now (heard .exit)) ⌝ }
     ensures room { λ _. ⌜ room (now (unflushed .exit)) ≡ room (now (unflushed .entry)) ⌝ }
-    ensures rests { λ r. ⌜ (0 < r → Fits-on (space (now (image .entry)) (now (unflushed .entry)) (now (heard .entry))) (left (now (session .entry))) (space (now (image .exit)) (now (unflushed .exit)) (now (heard .exit))) []) ⌝ }
+    ensures rests { λ r. ⌜ (0 < r → Fits-on (space (now (image .entry)) (now (unflushed .entry)) (now (said .entry)) (now (heard .entry))) (left (now (session .entry))) (space (now (image .exit)) (now (unflushed .exit)) (now (said .exit)) (now (heard .exit))) []) ⌝ }
 {
     let mut left = budget;
-    while left > 0 && act(session, unflushed, image, heard) {
+    while left > 0 && act(session, unflushed, image, said, heard) {
         left -= 1;
     }
     left
 }
 
 // Carries out calls, one after another, as far as the budget of acts goes.
-fn live(session: &mut Session, unflushed: &mut Unflushed, image: &mut [u8], heard: &mut Heard, calls: &[&[u8]], budget: u64)
+fn live(session: &mut Session, unflushed: &mut Unflushed, image: &mut [u8], said: &mut [u8], heard: &mut Heard, calls: &[&[u8]], budget: u64)
     requires ready { ⌜ Ready (now session) ⌝ }
     requires device { ⌜ blocks-for (limits (now session .ledger)) ≤ length (now image) / 512 ⌝ }
     requires sound { ⌜ Sound (now image) (now unflushed) ⌝ }
     requires rests { ⌜ now unflushed .count ≡ 0 ⌝ }
     requires room { ⌜ 0 < room (now unflushed) ⌝ }
-    requires listens { ⌜ Listens (now heard) ⌝ }
-    requires free { ⌜ 17 * length (now calls) ≤ free-in (now heard) ⌝ }
-    ensures world { λ _. ⌜ world (now (image .exit)) (now (unflushed .exit)) (now (heard .exit)) ≡ after-acts (world (now (image .entry)) (now (unflushed .entry)) (now (heard .entry))) (take budget (acts (first-program (limits (now (session .entry) .ledger))) (memory (now (session .entry))) (rows-read (now (calls .entry))))) ⌝ }
+    requires listens { ⌜ Listens (now said) (now heard) ⌝ }
+    requires free { ⌜ 17 * length (now calls) ≤ free-in (now said) (now heard) ⌝ }
+    ensures world { λ _. ⌜ world (now (image .exit)) (now (unflushed .exit)) (now (said .exit)) (now (heard .exit)) ≡ after-acts (world (now (image .entry)) (now (unflushed .entry)) (now (said .entry)) (now (heard .entry))) (take budget (acts (first-program (limits (now (session .entry) .ledger))) (memory (now (session .entry))) (rows-read (now (calls .entry))))) ⌝ }
     ensures sound { λ _. ⌜ Sound (now (image .exit)) (now (unflushed .exit)) ⌝ }
 {
     let mut left = budget;
@@ -95,6 +95,6 @@ fn live(session: &mut Session, unflushed: &mut Unflushed, image: &mut [u8], hear
             return;
         }
         session.call(*row);
-        left = finish(session, unflushed, image, heard, left);
+        left = finish(session, unflushed, image, said, heard, left);
     }
 }

@@ -10,6 +10,8 @@ returns-in-Say c =
     let o = c .in-Say .ensures tt in
     let s = c .args .session .now in
     let t = c .next-act .last .self in
+    let said = c .args .said .now in
+    let also = c .hear .last .said in
     let h = c .args .heard .now in
     let k = c .hear .last .self in
     let image = c .args .image .now in
@@ -18,10 +20,10 @@ returns-in-Say c =
     let e : rs ≡ written-answer (answer-of s) = said-bytes s t (c .in-Say .n) _ rs (o .said) (o .same .bytes) (c .pre .ready .spoken) (c .answer-bytes .ensures) (c .first .ensures) in
     let p = c .hear .ensures in
     record {
-      acted = (_, o .act, said-world image u h k s t rs e (o .act) (p .spoken) (p .count));
+      acted = (_, o .act, said-world image u said also h k s t rs e (o .act) (p .spoken) (p .answers));
       same = o .same;
       sound = c .pre .sound;
       listens = p .listens;
       room = refl;
-      fits = said-fits image u h k s t rs e (o .act) (p .free);
+      fits = said-fits image u said also h k s t rs e (o .act) (p .free);
     }

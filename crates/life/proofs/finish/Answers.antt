@@ -27,7 +27,7 @@ pub returns-else-act : need.returns-else-act
 returns-else-act c =
     let e = c .if-act .ensures tt in
     let i = c .loop-left .inv in
-    let s = run-none (c .loop-left .left) (world (c .loop-left .image) (c .loop-left .unflushed) (c .loop-left .heard)) _ (e .acted .0) in
+    let s = run-none (c .loop-left .left) (world (c .loop-left .image) (c .loop-left .unflushed) (c .loop-left .said) (c .loop-left .heard)) _ (e .acted .0) in
     record {
       left = sym (s .1) ∙ i .1;
       world = e .acted .2 ∙ (sym (s .0) ∙ i .0);
@@ -35,11 +35,11 @@ returns-else-act c =
       sound = e .sound;
       listens = e .listens;
       room = e .room ∙ i .5;
-      rests = λ _ n f. subst (λ (xs : List Act). Fits n (space (c .act .last .image) (c .act .last .unflushed) (c .act .last .heard)) xs) (e .acted .1) (e .fits n (i .6 n f));
+      rests = λ _ n f. subst (λ (xs : List Act). Fits n (space (c .act .last .image) (c .act .last .unflushed) (c .act .last .said) (c .act .last .heard)) xs) (e .acted .1) (e .fits n (i .6 n f));
     }
 
 pub returns-after-loop-left : need.returns-after-loop-left
 returns-after-loop-left c =
     let i = c .loop-left .inv in
-    let s = run-used (c .loop-left .left) (world (c .loop-left .image) (c .loop-left .unflushed) (c .loop-left .heard)) (left (c .loop-left .session)) (c .loop-left-test .left) in
+    let s = run-used (c .loop-left .left) (world (c .loop-left .image) (c .loop-left .unflushed) (c .loop-left .said) (c .loop-left .heard)) (left (c .loop-left .session)) (c .loop-left-test .left) in
     record { left = sym (s .1) ∙ i .1; world = sym (s .0) ∙ i .0; same = i .2; sound = i .3; listens = i .4; room = i .5; rests = λ h. absurd (omega (arith, h, c .loop-left-test .left)) }

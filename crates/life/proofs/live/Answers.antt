@@ -17,7 +17,7 @@ loop-row-holds c = (refl, c .pre .ready, refl, c .pre .sound, c .pre .listens, r
 pub returns-then-left-eq0 : need.returns-then-left-eq0
 returns-then-left-eq0 c =
     let i = c .loop-row .inv in
-    record { world = sym (lived-out (world (c .loop-row .image) (c .loop-row .unflushed) (c .loop-row .heard)) (c .loop-row .left) _ (c .if-left-eq0 .taken)) ∙ i .0; sound = i .3 }
+    record { world = sym (lived-out (world (c .loop-row .image) (c .loop-row .unflushed) (c .loop-row .said) (c .loop-row .heard)) (c .loop-row .left) _ (c .if-left-eq0 .taken)) ∙ i .0; sound = i .3 }
 
 pub finish-left-requires : need.finish-left-requires
 finish-left-requires c κs =
@@ -33,7 +33,7 @@ finish-left-requires c κs =
       ready = k .ready;
       sound = i .3;
       listens = i .4;
-      fits = call-fits s t _ 0 (space (c .loop-row .image) (c .loop-row .unflushed) (c .loop-row .heard)) (i .1) (k .ready) (k .acts) blocks (j .0) (omega (arith, i .5, c .pre .room)) (omega (arith, j .1, c .loop-row-test .taken));
+      fits = call-fits s t _ 0 (space (c .loop-row .image) (c .loop-row .unflushed) (c .loop-row .said) (c .loop-row .heard)) (i .1) (k .ready) (k .acts) blocks (j .0) (omega (arith, i .5, c .pre .room)) (omega (arith, j .1, c .loop-row-test .taken));
     }
 
 pub loop-row-again : need.loop-row-again
@@ -51,7 +51,7 @@ loop-row-again c =
     let blocks : room (limits (s .ledger)) ≤ length (c .loop-row .image) / 512 =
         let e = ap (λ (l : Limits). room l) (i .2) in omega (arith, e, c .pre .device, c .loop-row .kept .image) in
     (
-      lived-more l (c .args .calls .now) (c .loop-row .row-index) _ s t u (world (c .loop-row .image) (c .loop-row .unflushed) (c .loop-row .heard)) _ (c .loop-row .left) (c .finish-left .result)
+      lived-more l (c .args .calls .now) (c .loop-row .row-index) _ s t u (world (c .loop-row .image) (c .loop-row .unflushed) (c .loop-row .said) (c .loop-row .heard)) _ (c .loop-row .left) (c .finish-left .result)
       (c .loop-row-test .taken) (i .2) (memory-same t u (f .same)) (k .state) (k .acts) (f .world) (f .left)
       ∙ i .0,
       ready-same t u (f .same) (k .ready),
@@ -61,7 +61,7 @@ loop-row-again c =
       f .room ∙ i .5,
       λ more.
           f .rests more n
-          (call-fits s t _ n (space (c .loop-row .image) (c .loop-row .unflushed) (c .loop-row .heard)) (i .1) (k .ready) (k .acts) blocks (j .0) (omega (arith, i .5, c .pre .room)) (omega (arith, j .1, c .loop-row-test .taken))),
+          (call-fits s t _ n (space (c .loop-row .image) (c .loop-row .unflushed) (c .loop-row .said) (c .loop-row .heard)) (i .1) (k .ready) (k .acts) blocks (j .0) (omega (arith, i .5, c .pre .room)) (omega (arith, j .1, c .loop-row-test .taken))),
     )
 
 pub returns : need.returns
@@ -69,7 +69,7 @@ returns c =
     let i = c .loop-row .inv in
     record {
       world =
-          sym (lived-all (limits (c .args .session .now .ledger)) (c .args .calls .now) (c .loop-row .row-index) (memory (c .loop-row .session)) (world (c .loop-row .image) (c .loop-row .unflushed) (c .loop-row .heard))
+          sym (lived-all (limits (c .args .session .now .ledger)) (c .args .calls .now) (c .loop-row .row-index) (memory (c .loop-row .session)) (world (c .loop-row .image) (c .loop-row .unflushed) (c .loop-row .said) (c .loop-row .heard))
           (c .loop-row .left) (c .loop-row-test .left))
           ∙ i .0;
       sound = i .3;

@@ -12,11 +12,11 @@ use Rattle.life.proofs.live.Given as given
 -- what is left of the life gives what the whole life gives
 abbrev pub Inv-loop-row : given.InvT-loop-row
 Inv-loop-row l =
-    (after-acts (world (l .image) (l .unflushed) (l .heard)) (take (l .left) (acts (first-program (limits (l .entry .session .ledger))) (memory (l .session)) (drop (l .row-index) (rows-read (l .calls)))))
-    ≡ after-acts (world (l .entry .image) (l .entry .unflushed) (l .entry .heard)) (take (l .budget) (acts (first-program (limits (l .entry .session .ledger))) (memory (l .entry .session)) (rows-read (l .calls)))))
+    (after-acts (world (l .image) (l .unflushed) (l .said) (l .heard)) (take (l .left) (acts (first-program (limits (l .entry .session .ledger))) (memory (l .session)) (drop (l .row-index) (rows-read (l .calls)))))
+    ≡ after-acts (world (l .entry .image) (l .entry .unflushed) (l .entry .said) (l .entry .heard)) (take (l .budget) (acts (first-program (limits (l .entry .session .ledger))) (memory (l .entry .session)) (rows-read (l .calls)))))
     × Ready (l .session)
     × (limits (l .session .ledger) ≡ limits (l .entry .session .ledger))
     × Sound (l .image) (l .unflushed)
-    × Listens (l .heard)
+    × Listens (l .said) (l .heard)
     × (room (l .unflushed) ≡ room (l .entry .unflushed))
-    × (0 < l .left → (l .unflushed .count ≡ 0) × (17 * (length (l .calls) - l .row-index) ≤ free-in (l .heard)))
+    × (0 < l .left → (l .unflushed .count ≡ 0) × (17 * (length (l .calls) - l .row-index) ≤ free-in (l .said) (l .heard)))

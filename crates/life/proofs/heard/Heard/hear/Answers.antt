@@ -12,8 +12,8 @@ use Rattle.life.proofs.heard.Heard.hear.Needs as need
 pub returns : need.returns
 returns c =
     let h = c .args .self .now in
-    let at : ℕ = h .end in
-    let xs : List ℕ = h .bytes .now in
+    let at : ℕ = h .bytes in
+    let xs : List ℕ = c .args .said .now in
     let ys : List ℕ = c .args .answer .now in
     let room : at + length ys ≤ length xs = omega (arith, c .pre .room, c .pre .some, c .pre .listens .inside) in
     let e : putMid at ((at + length ys) - at) xs (c .fill .last .part) ≡ with-bytes xs at ys = part-written at (at + length ys) (length ys) _ ys xs refl refl (c .fill .ensures) in
@@ -21,6 +21,6 @@ returns c =
     record {
       listens = record { inside = omega (arith, n, room); counted = omega (arith, c .pre .listens .counted, c .pre .some) };
       spoken = ap (take (at + length ys)) e ∙ more-heard at ys xs room;
-      count = refl;
+      answers = refl;
       free = omega (arith, n, room);
     }
