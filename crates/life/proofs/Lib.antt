@@ -3,3 +3,4 @@ pub mod Saying
 pub mod Runs
 pub mod Sameness
 pub mod Calling
+pub mod Cuts

@@ -1,16 +1,21 @@
 -- A session's life on the simulated device: what its acts make of the device and of what is heard. Assumes nothing: these are definitions.
 use mathlib.Core.Path.{_≡_}
+use mathlib.Core.Logic.{_⊎_}
 use mathlib.Core.Bool.{Bool, true, false}
 use mathlib.Core.List.{List, [], _∷_, _++_, map}
-use Prim.Native.Nat.{ℕ, _+_, _-_, _/_, _≤_, _<_}
+use Prim.Native.Nat.{ℕ, suc, _+_, _-_, _/_, _≤_, _<_}
 use denote.Ref.{now, RefT}
 use lib.ListN.{length, take}
-use Rattle.device.specs.Device.{write, flush, say}
-use Rattle.bank.specs.Calls.{Call, Answer}
-use Rattle.bank.specs.Device.{Act}
+use Rattle.device.specs.Device.{write, flush, say, acts, said}
+use Rattle.bank.specs.Calls.{Call, Answer, Limits, answers, ran, new-bank}
+use Rattle.bank.specs.Device.{Act, Left-by}
+use Rattle.bank.specs.Promise.{all-plain}
+use Rattle.model.specs.First.{first-program, first-reading}
 use Rattle.wire.specs.Answered.{written-answer}
 use Rattle.wire.specs.Format.{read-call}
-use Rattle.sim.specs.Held.{Held, done}
+use Rattle.blocks.specs.Blocks.{device-of}
+use Rattle.sim.specs.Held.{Held, at-rest, done, dones}
+use Rattle.sim.specs.Cut.{cut-by}
 use Rattle.sim.specs.Sims.{holds, room}
 use Rattle.sim.specs.declared.Unflushed.{Unflushed}
 use Rattle.life.specs.declared.heard.Heard.{Heard}
@@ -23,20 +28,20 @@ pub record World : Type 0 where
 
 -- the bytes that were heard
 abbrev pub spoken-in : List ℕ → Heard → List ℕ
-spoken-in said h = take (h .bytes) said
+spoken-in bs h = take (h .bytes) bs
 
 -- and how many more can be
 abbrev pub free-in : List ℕ → Heard → ℕ
-free-in said h = length said - h .bytes
+free-in bs h = length bs - h .bytes
 
 -- what was heard lies in the lent bytes, and each answer has one at least
-pub record Listens (said : List ℕ) (h : Heard) : Type 0 where
-  pub inside : h .bytes ≤ length said
+pub record Listens (bs : List ℕ) (h : Heard) : Type 0 where
+  pub inside : h .bytes ≤ length bs
   pub counted : h .answers ≤ h .bytes
 
 -- the world that an image, the writes that are not safe yet and what was heard are
 abbrev pub world : List ℕ → Unflushed → List ℕ → Heard → World
-world image u said h = record { held = holds image u; spoken = spoken-in said h; heard = h .answers }
+world image u bs h = record { held = holds image u; spoken = spoken-in bs h; heard = h .answers }
 
 -- the world after an act
 abbrev pub after-act : World → Act → World
@@ -63,7 +68,7 @@ pub record Space : Type 0 where
 
 -- the room in an image, for writes and for what is heard
 abbrev pub space : List ℕ → Unflushed → List ℕ → Heard → Space
-space image u said h = record { blocks = length image / 512; most = room u; pending = u .count; free = free-in said h }
+space image u bs h = record { blocks = length image / 512; most = room u; pending = u .count; free = free-in bs h }
 
 -- there is room for acts: each write is of a whole block that is there, and can be pending; each answer can be heard; behind them nothing is pending, and n bytes can be heard
 abbrev pub Fits : ℕ → Space → List Act → Type 0
@@ -81,3 +86,28 @@ Fits-on s was t is = (n : ℕ) → Fits n s was → Fits n t is
 -- the calls that rows of bytes are
 abbrev pub rows-read : List (RefT (List ℕ)) → List Call
 rows-read rows = map (λ r. read-call (now r)) rows
+
+-- answers as bytes, one behind another
+unfoldable pub written-answers : List Answer → List ℕ
+written-answers [] = []
+written-answers (a ∷ rest) = written-answer a ++ written-answers rest
+
+-- the acts of a life, as far as a budget goes: those of the program, started on the device that an image is, for the calls that some rows are
+abbrev pub lived : Limits → List ℕ → List (RefT (List ℕ)) → ℕ → List Act
+lived l image rows budget = take budget (acts (first-program l) (first-program l .start (device-of image)) (rows-read rows))
+
+-- what a life leaves that a row cut: the answers among its acts are heard, and the image is what the row leaves after these acts, which is what a cut after them can leave
+pub record Lived (l : Limits) (image : List ℕ) (rows : List (RefT (List ℕ))) (budget : ℕ) (row image-after said-after : List ℕ) (h : Heard) : Type 0 where
+  pub counted : h .answers ≡ length (said (lived l image rows budget))
+  pub spoken : spoken-in said-after h ≡ written-answers (said (lived l image rows budget))
+  pub cut : (k : ℕ) → device-of image-after k ≡ cut-by row (dones {A = Answer} (at-rest (device-of image)) (lived l image rows budget)) k
+  pub left : Left-by (device-of image) (lived l image rows budget) (device-of image-after)
+
+-- A LIFE KEEPS THE BOOK. On a device that reads as the calls ts, what was said are the first of the answers that the book gives after ts; and the device that is left reads as
+-- ts with the calls that were answered, or these and the one that was under way
+abbrev pub Keeps-the-book : Limits → List ℕ → List (RefT (List ℕ)) → List ℕ → List ℕ → Heard → Type 0
+Keeps-the-book l image rows image-after said-after h =
+    (ts : List Call) → first-reading l (device-of image) ts → all-plain (rows-read rows) ≡ true →
+    let heard : ℕ = h .answers in
+    (spoken-in said-after h ≡ written-answers (take heard (answers l (ran l new-bank ts) (rows-read rows))))
+    × (first-reading l (device-of image-after) (ts ++ take heard (rows-read rows)) ⊎ first-reading l (device-of image-after) (ts ++ take (suc heard) (rows-read rows)))

@@ -8,10 +8,11 @@ ghost use Rattle.bank.specs.Calls.{Answer};
 ghost use Rattle.bank.specs.Promise.{room as blocks-for};
 ghost use Rattle.model.specs.First.{first-program};
 ghost use Rattle.ledger.specs.Meaning.{limits};
+ghost use Rattle.blocks.specs.Blocks.{device-of};
 ghost use Rattle.sim.specs.Held.{done};
 ghost use Rattle.sim.specs.Sims.{holds, room, Sound};
 ghost use Rattle.session.specs.Session.{left, memory, Ready, Same};
-ghost use Rattle.life.specs.Life.{world, after-acts, space, Acted, Fits, Fits-on, Listens, free-in, rows-read};
+ghost use Rattle.life.specs.Life.{world, after-acts, space, Acted, Fits, Fits-on, Listens, free-in, rows-read, Lived};
 use heard::Heard;
 use heard::first;
 use session::Next;
@@ -97,4 +98,33 @@ fn live(session: &mut Session, unflushed: &mut Unflushed, image: &mut [u8], said
         session.call(*row);
         left = finish(session, unflushed, image, said, heard, left);
     }
+}
+
+// Carries out calls on a device at rest, as far as the budget of acts goes; then power is lost, and the row says what is left of the unflushed writes.
+fn live_and_cut(
+    session: &mut Session,
+    places: &mut [u64],
+    blocks: &mut [u8],
+    image: &mut [u8],
+    said: &mut [u8],
+    calls: &[&[u8]],
+    budget: u64,
+    row: &[u64],
+) -> Heard
+    requires ready { ⌜ Ready (now session) ⌝ }
+    requires started { ⌜ memory (now session) ≡ first-program (limits (now session .ledger)) .start (device-of (now image)) ⌝ }
+    requires device { ⌜ blocks-for (limits (now session .ledger)) ≤ length (now image) / 512 ⌝ }
+    requires places { ⌜ 0 < length (now places) ⌝ }
+    requires blocks { ⌜ 512 ≤ length (now blocks) ⌝ }
+    requires free { ⌜ 17 * length (now calls) ≤ length (now said) ⌝ }
+    ensures { λ r. ⌜ Lived (limits (now (session .entry) .ledger)) (now (image .entry)) (now (calls .entry)) budget (now (row .entry)) (now (image .exit)) (now (said .exit)) r ⌝ }
+{
+    let mut unflushed = Unflushed::new(places, blocks);
+    let mut heard = Heard {
+        answers: 0,
+        bytes: 0,
+    };
+    live(session, &mut unflushed, image, said, &mut heard, calls, budget);
+    unflushed.cut(image, row);
+    heard
 }
