@@ -24,6 +24,8 @@ use reply::write_plain;
 use wire::answer::Answer;
 use wire::call::read_call;
 
+pub mod opening;
+mod replay;
 mod reply;
 
 // What is left to do for the call that was taken last.
