@@ -15,7 +15,7 @@ use Rattle.bank.specs.Calls.{Call, Limits, answer}
 use Rattle.bank.specs.Calls.{Answer as Reply}
 use Rattle.bank.specs.Count.{changes}
 use Rattle.bank.specs.Device.{Act}
-use Rattle.bank.specs.Promise.{readable, plain, room}
+use Rattle.bank.specs.Promise.{readable, all-readable, plain, room}
 use Rattle.model.specs.First.{first-call, first-program}
 use Rattle.model.proofs.First.{more}
 use Rattle.model.proofs.Steps.{taken-does, quiet-does}
@@ -80,6 +80,17 @@ rest-none [] zero h = refl
 rest-none [] (suc i) h = refl
 rest-none (r ∷ rows) zero h = absurd (omega arith)
 rest-none (r ∷ rows) (suc i) h = rest-none rows i (omega arith)
+
+-- the rows can be read
+pub readable-more : (rows : List (RefT (List ℕ))) (i : ℕ) (d : RefT (List ℕ)) → i < length rows → readable (read-call (now (getD rows i d))) ≡ true →
+    all-readable (drop i (rows-read rows)) ≡ all-readable (drop (i + 1) (rows-read rows))
+unfolding all-readable
+readable-more rows i d h r =
+    ap all-readable (rest-cons rows i d h) ∙ ap (λ (b : Bool). b && all-readable (drop (suc i) (rows-read rows))) r ∙ ap (λ (k : ℕ). all-readable (drop k (rows-read rows))) (sym (add-one i))
+
+pub readable-all : (rows : List (RefT (List ℕ))) (i : ℕ) → length rows ≤ i → all-readable (drop i (rows-read rows)) ≡ true
+unfolding all-readable
+readable-all rows i h = ap all-readable (rest-none rows i h)
 
 -- one call of a life
 live-step : (l : Limits) (m m′ : Memory Call Bank) (c : Call) (cs : List Call) (xs : List Act) (v w : World) (n n′ : ℕ) → m′ ≡ first-program l .next m c → xs ≡ first-program l .does m c →
