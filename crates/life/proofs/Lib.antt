@@ -4,3 +4,4 @@ pub mod Runs
 pub mod Sameness
 pub mod Calling
 pub mod Cuts
+pub mod Endings

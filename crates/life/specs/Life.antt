@@ -1,15 +1,21 @@
 -- A session's life on the simulated device: what its acts make of the device and of what is heard. Assumes nothing: these are definitions.
 use mathlib.Core.Path.{_≡_}
 use mathlib.Core.Logic.{_⊎_}
-use mathlib.Core.Bool.{Bool, true, false}
+use mathlib.Core.Bool.{Bool, true, false, _&&_}
 use mathlib.Core.List.{List, [], _∷_, _++_, map}
-use Prim.Native.Nat.{ℕ, suc, _+_, _-_, _/_, _≤_, _<_}
+use Prim.Native.Nat.{ℕ, suc, _+_, _*_, _-_, _/_, _≤_, _<_}
+use lib.Dec.{leb}
 use denote.Ref.{now, RefT}
+use Rattle.std.specs.declared.option.Option.{Option}
+use Rattle.std.specs.declared.option.Option.the-variants.{Some, None}
+use Rattle.std.specs.declared.result.Result.{Result}
+use Rattle.std.specs.declared.result.Result.the-variants.{Ok, Err}
 use lib.ListN.{length, take}
-use Rattle.device.specs.Device.{write, flush, say, acts, said}
+use Rattle.device.specs.Device.{pick, write, flush, say, acts, said}
 use Rattle.bank.specs.Calls.{Call, Answer, Limits, answers, ran, new-bank}
 use Rattle.bank.specs.Device.{Act, Left-by}
-use Rattle.bank.specs.Promise.{all-plain}
+use Rattle.bank.specs.Promise.{allowed, all-plain}
+use Rattle.bank.specs.Promise.{room as blocks-for}
 use Rattle.model.specs.First.{first-program, first-reading}
 use Rattle.wire.specs.Answered.{written-answer}
 use Rattle.wire.specs.Format.{read-call}
@@ -18,7 +24,9 @@ use Rattle.sim.specs.Held.{Held, at-rest, done, dones}
 use Rattle.sim.specs.Cut.{cut-by}
 use Rattle.sim.specs.Sims.{holds, room}
 use Rattle.sim.specs.declared.Unflushed.{Unflushed}
+use Rattle.session.specs.Opening.{suffices}
 use Rattle.life.specs.declared.heard.Heard.{Heard}
+use Rattle.life.specs.declared.lent.Lent.{Lent}
 
 -- what stands around a session: what the device holds, the bytes of the answers that were heard, one behind another, and how many answers these are
 pub record World : Type 0 where
@@ -111,3 +119,27 @@ Keeps-the-book l image rows image-after said-after h =
     let heard : ℕ = h .answers in
     (spoken-in said-after h ≡ written-answers (take heard (answers l (ran l new-bank ts) (rows-read rows))))
     × (first-reading l (device-of image-after) (ts ++ take heard (rows-read rows)) ⊎ first-reading l (device-of image-after) (ts ++ take (suc heard) (rows-read rows)))
+
+-- is there room on the simulated device for a write that is not safe yet, and for the answers to so many calls: 17 bytes for each
+abbrev pub has-room : ℕ → ℕ → ℕ → ℕ → Bool
+has-room places blocks free calls = (leb 1 places && leb 512 blocks) && leb (17 * calls) free
+
+-- the place of what does not fit: the limits first, then memory
+abbrev pub lacks : Limits → Lent → ℕ → ℕ → Option ℕ
+lacks l m free calls =
+    pick (allowed l)
+    (pick
+    (suffices l (length (now (m .cents))) (length (now (m .numbers))) (length (now (m .block))) (length (now (m .bytes)))
+    && has-room (length (now (m .places))) (length (now (m .blocks))) free calls) None (Some 0))
+    (Some 2)
+
+-- a life is refused for what does not fit, or for a device that is too small or reads as no calls
+abbrev pub Refused-for : Option ℕ → Limits → List ℕ → ℕ → Type 0
+Refused-for (Some p) l image place = place ≡ p
+Refused-for None l image place = (place ≡ 1) × ((ts : List Call) → 512 * blocks-for l ≤ length image → first-reading l (device-of image) ts → ⊥)
+
+-- how a life ends: it was lived, and kept the book; or it was refused, and all is as it was
+abbrev pub Ended : Limits → Lent → List (RefT (List ℕ)) → ℕ → List ℕ → List ℕ → List ℕ → List ℕ → List ℕ → Result Heard ℕ → Type 0
+Ended l m rows budget row image bs image-after bs-after (Ok h) =
+    (lacks l m (length bs) (length rows) ≡ None) × (512 * blocks-for l ≤ length image) × Lived l image rows budget row image-after bs-after h × Keeps-the-book l image rows image-after bs-after h
+Ended l m rows budget row image bs image-after bs-after (Err place) = (image-after ≡ image) × (bs-after ≡ bs) × Refused-for (lacks l m (length bs) (length rows)) l image place

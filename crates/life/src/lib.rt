@@ -1,25 +1,43 @@
 // A session's life on the simulated device: calls are carried out until a budget of acts is used up; then power is lost.
 ghost use mathlib.Core.Path.{_≡_};
+ghost use mathlib.Core.Bool.{true};
 ghost use mathlib.Core.List.{List, []};
 ghost use Prim.Native.Nat.{ℕ, _+_, _*_, _-_, _/_, _≤_, _<_};
 ghost use lib.ListN.{length, take};
 ghost use Rattle.device.specs.Device.{write as written, acts};
 ghost use Rattle.bank.specs.Calls.{Answer};
-ghost use Rattle.bank.specs.Promise.{room as blocks-for};
-ghost use Rattle.model.specs.First.{first-program};
+ghost use Rattle.bank.specs.Calls.{Limits as Bounds};
+ghost use Rattle.bank.specs.Promise.{room as blocks-for, allowed, all-readable};
+ghost use Rattle.columns.specs.Sizes.{limits-of};
+ghost use Rattle.model.specs.Core.{Is-the-first-core-by, Through-every-life};
+ghost use Rattle.model.specs.First.{first-call, first-program, first-reading};
 ghost use Rattle.ledger.specs.Meaning.{limits};
 ghost use Rattle.blocks.specs.Blocks.{device-of};
 ghost use Rattle.sim.specs.Held.{done};
 ghost use Rattle.sim.specs.Sims.{holds, room, Sound};
 ghost use Rattle.session.specs.Session.{left, memory, Ready, Same};
-ghost use Rattle.life.specs.Life.{world, after-acts, space, Acted, Fits, Fits-on, Listens, free-in, rows-read, Lived};
+ghost use Rattle.life.specs.Life.{world, after-acts, space, Acted, Fits, Fits-on, Listens, free-in, rows-read, Lived, has-room, Ended};
+use blocks::BLOCK;
+use blocks::blocks_in;
+use columns::limits::Limits;
 use heard::Heard;
+use heard::can_hear;
 use heard::first;
+use lent::Lent;
 use session::Next;
 use session::Session;
+use session::opening::blocks_needed;
+use session::opening::open;
+use session::opening::recover;
 use sim::Unflushed;
 
 mod heard;
+mod lent;
+
+// What does not fit, by its place in refusal 3: lent memory, or the device.
+const MEMORY: u64 = 0;
+
+const DEVICE: u64 = 1;
 
 // Keeps a write for which there is room.
 fn keep(unflushed: &mut Unflushed, image: &[u8], k: u64, block: &[u8])
@@ -127,4 +145,67 @@ fn live_and_cut(
     live(session, &mut unflushed, image, said, &mut heard, calls, budget);
     unflushed.cut(image, row);
     heard
+}
+
+// Is there room for a write that is not safe yet, and for the answers to all calls?
+fn is_room(places: &[u64], blocks: &[u8], said: &[u8], calls: &[&[u8]]) -> bool
+    ensures room { λ r. ⌜ r ≡ has-room (length (now (places .entry))) (length (now (blocks .entry))) (length (now (said .entry))) (length (now (calls .entry))) ⌝ }
+    ensures readable { λ r. ⌜ (r ≡ true → all-readable (rows-read (now (calls .entry))) ≡ true) ⌝ }
+{
+    if places.len() < 1 {
+        return false;
+    }
+    if blocks.len() < BLOCK {
+        return false;
+    }
+    can_hear(said, calls)
+}
+
+// A whole life: opens the book that the image holds, carries out calls until the budget of acts is used up, and loses power, so that of the unflushed writes the image
+// has what the row says. The answers stand in `said`. Where something does not fit, its place in refusal 3.
+pub fn life(
+    limits: Limits,
+    lent: Lent,
+    image: &mut [u8],
+    said: &mut [u8],
+    calls: &[&[u8]],
+    budget: u64,
+    row: &[u64],
+) -> Result<Heard, u64>
+    ensures ended { λ r. ⌜ Ended (limits-of limits) (lent .entry) (now (calls .entry)) budget (now (row .entry)) (now (image .entry)) (now (said .entry)) (now (image .exit)) (now (said .exit)) r ⌝ }
+    ensures core { λ _. ⌜ Is-the-first-core-by first-program first-reading ⌝ }
+    ensures lives { λ _. ⌜ ((l : Bounds) → allowed l ≡ true → Through-every-life l (first-program l) first-call) ⌝ }
+{
+    let Lent {
+        cents,
+        numbers,
+        block,
+        bytes,
+        places,
+        blocks,
+    } = lent;
+    let opening = match open(limits, cents, numbers, block, bytes) {
+        Ok(opening) => opening,
+        Err(refused) => return Err(refused.place),
+    };
+    if !is_room(places, blocks, said, calls) {
+        return Err(MEMORY);
+    }
+    if blocks_in(image) < blocks_needed(limits) {
+        return Err(DEVICE);
+    }
+    let Some(mut session) = recover(opening, image) else {
+        return Err(DEVICE);
+    };
+    let heard = live_and_cut(
+        &mut session,
+        places,
+        blocks,
+        image,
+        said,
+        calls,
+        budget,
+        row,
+    );
+    Ok(heard)
 }
