@@ -58,7 +58,7 @@ lived-and-cut l image rows budget row image-live image-after said-before said-af
     let before = world image u said-before (record { answers = 0; bytes = 0 }) in
     let all : world image-live v said-after h ≡ after-acts before xs = w ∙ ap (λ (x : Memory Call Bank). after-acts before (take budget (acts (first-program l) x (rows-read rows)))) e in
     let held : holds image-live v ≡ dones {A = Answer} (at-rest (device-of image)) xs =
-        ap (λ (x : World). x .held) all ∙ held-after before xs ∙ ap (λ (x : Held). dones {A = Answer} x xs) r in
+    ap (λ (x : World). x .held) all ∙ held-after before xs ∙ ap (λ (x : Held). dones {A = Answer} x xs) r in
     record {
       counted = let q = ap (λ (x : World). x .heard) all ∙ heard-after before xs in omega (arith, q);
       spoken = ap (λ (x : World). x .spoken) all ∙ spoken-after before xs;
@@ -86,8 +86,7 @@ keeps-the-book l image rows budget row image-after said-after h a y v ts f p =
     let right : said all ≡ answers l (ran l new-bank ts) cs = o .right (device-of image) ts cs f y p in
     let n : length (said xs) ≡ h .answers = sym (v .counted) in
     let kept : first-reading l (device-of image-after) (ts ++ take (length (said xs)) cs) ⊎ first-reading l (device-of image-after) (ts ++ take (suc (length (said xs))) cs) =
-        o .kept (device-of image) (device-of image-after) ts cs budget f y p (v .left) in
-    (
+    o .kept (device-of image) (device-of image-after) ts cs budget f y p (v .left) in (
       v .spoken ∙ ap written-answers (said-take budget all ∙ ap (take (length (said xs))) right ∙ ap (λ (k : ℕ). take k (answers l (ran l new-bank ts) cs)) n),
       subst (λ (k : ℕ). first-reading l (device-of image-after) (ts ++ take k cs) ⊎ first-reading l (device-of image-after) (ts ++ take (suc k) cs)) n kept,
     )

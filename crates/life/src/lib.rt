@@ -31,8 +31,8 @@ use session::opening::open;
 use session::opening::recover;
 use sim::Unflushed;
 
-mod heard;
-mod lent;
+pub mod heard;
+pub mod lent;
 
 // What does not fit, by its place in refusal 3: lent memory, or the device.
 const MEMORY: u64 = 0;
@@ -54,7 +54,13 @@ fn keep(unflushed: &mut Unflushed, image: &[u8], k: u64, block: &[u8])
 }
 
 // Does the next act, if there is one.
-fn act(session: &mut Session, unflushed: &mut Unflushed, image: &mut [u8], said: &mut [u8], heard: &mut Heard) -> bool
+fn act(
+    session: &mut Session,
+    unflushed: &mut Unflushed,
+    image: &mut [u8],
+    said: &mut [u8],
+    heard: &mut Heard,
+) -> bool
     requires ready { ⌜ Ready (now session) ⌝ }
     requires sound { ⌜ Sound (now image) (now unflushed) ⌝ }
     requires listens { ⌜ Listens (now said) (now heard) ⌝ }
@@ -76,7 +82,14 @@ fn act(session: &mut Session, unflushed: &mut Unflushed, image: &mut [u8], said:
 }
 
 // Does what is to be done, as far as the budget of acts goes, and says how much of it is left.
-fn finish(session: &mut Session, unflushed: &mut Unflushed, image: &mut [u8], said: &mut [u8], heard: &mut Heard, budget: u64) -> u64
+fn finish(
+    session: &mut Session,
+    unflushed: &mut Unflushed,
+    image: &mut [u8],
+    said: &mut [u8],
+    heard: &mut Heard,
+    budget: u64,
+) -> u64
     requires ready { ⌜ Ready (now session) ⌝ }
     requires sound { ⌜ Sound (now image) (now unflushed) ⌝ }
     requires listens { ⌜ Listens (now said) (now heard) ⌝ }
@@ -97,7 +110,15 @@ fn finish(session: &mut Session, unflushed: &mut Unflushed, image: &mut [u8], sa
 }
 
 // Carries out calls, one after another, as far as the budget of acts goes.
-fn live(session: &mut Session, unflushed: &mut Unflushed, image: &mut [u8], said: &mut [u8], heard: &mut Heard, calls: &[&[u8]], budget: u64)
+fn live(
+    session: &mut Session,
+    unflushed: &mut Unflushed,
+    image: &mut [u8],
+    said: &mut [u8],
+    heard: &mut Heard,
+    calls: &[&[u8]],
+    budget: u64,
+)
     requires ready { ⌜ Ready (now session) ⌝ }
     requires device { ⌜ blocks-for (limits (now session .ledger)) ≤ length (now image) / 512 ⌝ }
     requires sound { ⌜ Sound (now image) (now unflushed) ⌝ }
@@ -142,7 +163,15 @@ fn live_and_cut(
         answers: 0,
         bytes: 0,
     };
-    live(session, &mut unflushed, image, said, &mut heard, calls, budget);
+    live(
+        session,
+        &mut unflushed,
+        image,
+        said,
+        &mut heard,
+        calls,
+        budget,
+    );
     unflushed.cut(image, row);
     heard
 }

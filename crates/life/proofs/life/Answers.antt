@@ -30,9 +30,12 @@ pub returns-then-not-is-room : need.returns-then-not-is-room
 returns-then-not-is-room c =
     let f : c .is-room .result ≡ false = c .if-not-is-room .taken in
     record {
-      ended =
-          (refl, refl, refused-room (limits-of (c .args .limits)) (c .args .lent) (length (c .args .said .now)) (length (c .args .calls .now)) (c .args .image .now) (c .in-Ok .ensures tt .0)
-          (sym (c .is-room .ensures .room) ∙ f));
+      ended = (
+        refl,
+        refl,
+        refused-room (limits-of (c .args .limits)) (c .args .lent) (length (c .args .said .now)) (length (c .args .calls .now)) (c .args .image .now) (c .in-Ok .ensures tt .0)
+            (sym (c .is-room .ensures .room) ∙ f),
+      );
       core = first-core-by;
       lives = first-lives;
     }
@@ -42,9 +45,12 @@ returns-then-blocks-in-blocks-needed c =
     let f : c .is-room .result ≡ true = c .if-not-is-room .left in
     let small : c .blocks-in .result < c .blocks-needed .result = c .if-blocks-in-blocks-needed .taken in
     record {
-      ended =
-          (refl, refl, refused-device (limits-of (c .args .limits)) (c .args .lent) (length (c .args .said .now)) (length (c .args .calls .now)) (c .args .image .now) (c .in-Ok .ensures tt .0)
-          (sym (c .is-room .ensures .room) ∙ f) (λ ts long g. absurd (omega (arith, small, long, c .blocks-in .ensures, c .blocks-needed .ensures))));
+      ended = (
+        refl,
+        refl,
+        refused-device (limits-of (c .args .limits)) (c .args .lent) (length (c .args .said .now)) (length (c .args .calls .now)) (c .args .image .now) (c .in-Ok .ensures tt .0)
+            (sym (c .is-room .ensures .room) ∙ f) (λ ts long g. absurd (omega (arith, small, long, c .blocks-in .ensures, c .blocks-needed .ensures))),
+      );
       core = first-core-by;
       lives = first-lives;
     }
@@ -57,10 +63,13 @@ returns-in-rest c =
     let k : limits (c .in-Ok .opening .session .ledger) ≡ l = o .1 .limits-are in
     let a = all-fits l (c .args .lent) (length (c .args .said .now)) (length (c .args .calls .now)) (c .args .image .now) (o .0) (sym (c .is-room .ensures .room) ∙ f) in
     record {
-      ended =
-          (refl, refl, refused-device l (c .args .lent) (length (c .args .said .now)) (length (c .args .calls .now)) (c .args .image .now) (o .0)
-          (sym (c .is-room .ensures .room) ∙ f)
-          (λ ts long g. no-book (c .in-Ok .opening) l (c .args .image .now) ts (o .1) (a .1) long g (c .in-rest .ensures tt)));
+      ended = (
+        refl,
+        refl,
+        refused-device l (c .args .lent) (length (c .args .said .now)) (length (c .args .calls .now)) (c .args .image .now) (o .0)
+            (sym (c .is-room .ensures .room) ∙ f)
+            (λ ts long g. no-book (c .in-Ok .opening) l (c .args .image .now) ts (o .1) (a .1) long g (c .in-rest .ensures tt)),
+      );
       core = first-core-by;
       lives = first-lives;
     }
@@ -77,7 +86,7 @@ returns c =
     let said = c .live-and-cut-heard .last .said in
     let h = c .live-and-cut-heard .result in
     let v : Lived l (c .args .image .now) (c .args .calls .now) (c .args .budget) (c .args .row .now) image said h =
-        subst (λ (x : Limits). Lived x (c .args .image .now) (c .args .calls .now) (c .args .budget) (c .args .row .now) image said h) (s .1 ∙ o .1 .limits-are) (c .live-and-cut-heard .ensures) in
+    subst (λ (x : Limits). Lived x (c .args .image .now) (c .args .calls .now) (c .args .budget) (c .args .row .now) image said h) (s .1 ∙ o .1 .limits-are) (c .live-and-cut-heard .ensures) in
     record {
       ended = (a .0, big, v, keeps-the-book l (c .args .image .now) (c .args .calls .now) (c .args .budget) (c .args .row .now) image said h (a .1) (c .is-room .ensures .readable f) v);
       core = first-core-by;

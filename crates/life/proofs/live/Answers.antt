@@ -28,7 +28,7 @@ finish-left-requires c κs =
     let go : 0 < c .loop-row .left = omega (arith, c .if-left-eq0 .left) in
     let j = i .6 go in
     let blocks : room (limits (s .ledger)) ≤ length (c .loop-row .image) / 512 =
-        let e = ap (λ (l : Limits). room l) (i .2) in omega (arith, e, c .pre .device, c .loop-row .kept .image) in
+    let e = ap (λ (l : Limits). room l) (i .2) in omega (arith, e, c .pre .device, c .loop-row .kept .image) in
     record {
       ready = k .ready;
       sound = i .3;
@@ -49,11 +49,10 @@ loop-row-again c =
     let go : 0 < c .loop-row .left = omega (arith, c .if-left-eq0 .left) in
     let j = i .6 go in
     let blocks : room (limits (s .ledger)) ≤ length (c .loop-row .image) / 512 =
-        let e = ap (λ (l : Limits). room l) (i .2) in omega (arith, e, c .pre .device, c .loop-row .kept .image) in
-    (
+    let e = ap (λ (l : Limits). room l) (i .2) in omega (arith, e, c .pre .device, c .loop-row .kept .image) in (
       lived-more l (c .args .calls .now) (c .loop-row .row-index) _ s t u (world (c .loop-row .image) (c .loop-row .unflushed) (c .loop-row .said) (c .loop-row .heard)) _ (c .loop-row .left) (c .finish-left .result)
-      (c .loop-row-test .taken) (i .2) (memory-same t u (f .same)) (k .state) (k .acts) (f .world) (f .left)
-      ∙ i .0,
+          (c .loop-row-test .taken) (i .2) (memory-same t u (f .same)) (k .state) (k .acts) (f .world) (f .left)
+          ∙ i .0,
       ready-same t u (f .same) (k .ready),
       limits-same t u (f .same) ∙ k .limits ∙ i .2,
       f .sound,
