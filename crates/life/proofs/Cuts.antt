@@ -22,7 +22,7 @@ use Rattle.sim.specs.Cut.{cut-by}
 use Rattle.sim.specs.Sims.{holds}
 use Rattle.sim.specs.declared.Unflushed.{Unflushed}
 use Rattle.life.specs.declared.heard.Heard.{Heard}
-use Rattle.life.specs.Life.{World, world, after-act, after-acts, rows-read, written-answers, lived, Lived, Keeps-the-book}
+use Rattle.life.specs.Life.{World, world, after-act, after-acts, Behind, rows-read, written-answers, lived, Lived, Keeps-the-book}
 
 -- what the device holds after some acts
 pub held-after : (w : World) (xs : List Act) → after-acts w xs .held ≡ dones {A = Answer} (w .held) xs
@@ -52,8 +52,9 @@ pub lived-and-cut : (l : Limits) (image : List ℕ) (rows : List (RefT (List ℕ
     m ≡ first-program l .start (device-of image) → holds image u ≡ at-rest (device-of image) →
     world image-live v said-after h ≡ after-acts (world image u said-before (record { answers = 0; bytes = 0 })) (take budget (acts (first-program l) m (rows-read rows))) →
     ((k : ℕ) → device-of image-after k ≡ cut-by row (holds image-live v) k) →
-    ((d : Device) (xs : List Act) → holds image-live v ≡ dones (at-rest d) xs → Left-by d xs (device-of image-after)) → Lived l image rows budget row image-after said-after h
-lived-and-cut l image rows budget row image-live image-after said-before said-after u v h m e r w c left =
+    ((d : Device) (xs : List Act) → holds image-live v ≡ dones (at-rest d) xs → Left-by d xs (device-of image-after)) →
+    Behind said-before (record { answers = 0; bytes = 0 }) said-after h → Lived l image rows budget row said-before image-after said-after h
+lived-and-cut l image rows budget row image-live image-after said-before said-after u v h m e r w c left rest =
     let xs = lived l image rows budget in
     let before = world image u said-before (record { answers = 0; bytes = 0 }) in
     let all : world image-live v said-after h ≡ after-acts before xs = w ∙ ap (λ (x : Memory Call Bank). after-acts before (take budget (acts (first-program l) x (rows-read rows)))) e in
@@ -62,6 +63,7 @@ lived-and-cut l image rows budget row image-live image-after said-before said-af
     record {
       counted = let q = ap (λ (x : World). x .heard) all ∙ heard-after before xs in omega (arith, q);
       spoken = ap (λ (x : World). x .spoken) all ∙ spoken-after before xs;
+      behind = rest .stays;
       cut = λ k. c k ∙ ap (λ (x : Held). cut-by row x k) held;
       left = left (device-of image) xs held;
     }
@@ -76,9 +78,9 @@ said-take (suc k) (flush ∷ xs) = said-take k xs
 said-take (suc k) (say a ∷ xs) = ap (λ z. a ∷ z) (said-take k xs)
 
 -- the promise of the first stage, for a life
-pub keeps-the-book : (l : Limits) (image : List ℕ) (rows : List (RefT (List ℕ))) (budget : ℕ) (row image-after said-after : List ℕ) (h : Heard) → allowed l ≡ true → all-readable (rows-read rows) ≡ true →
-    Lived l image rows budget row image-after said-after h → Keeps-the-book l image rows image-after said-after h
-keeps-the-book l image rows budget row image-after said-after h a y v ts f p =
+pub keeps-the-book : (l : Limits) (image : List ℕ) (rows : List (RefT (List ℕ))) (budget : ℕ) (row said-before image-after said-after : List ℕ) (h : Heard) → allowed l ≡ true → all-readable (rows-read rows) ≡ true →
+    Lived l image rows budget row said-before image-after said-after h → Keeps-the-book l image rows image-after said-after h
+keeps-the-book l image rows budget row said-before image-after said-after h a y v ts f p =
     let cs = rows-read rows in
     let xs = lived l image rows budget in
     let all = acts (first-program l) (first-program l .start (device-of image)) cs in

@@ -10,7 +10,7 @@ use Rattle.std.specs.declared.option.Option.{Option}
 use Rattle.std.specs.declared.option.Option.the-variants.{Some, None}
 use Rattle.std.specs.declared.result.Result.{Result}
 use Rattle.std.specs.declared.result.Result.the-variants.{Ok, Err}
-use lib.ListN.{length, take}
+use lib.ListN.{length, take, drop}
 use Rattle.device.specs.Device.{pick, write, flush, say, acts, said}
 use Rattle.bank.specs.Calls.{Call, Answer, Limits, answers, ran, new-bank}
 use Rattle.bank.specs.Device.{Act, Left-by}
@@ -46,6 +46,11 @@ free-in bs h = length bs - h .bytes
 pub record Listens (bs : List ℕ) (h : Heard) : Type 0 where
   pub inside : h .bytes ≤ length bs
   pub counted : h .answers ≤ h .bytes
+
+-- more was heard, and the bytes behind it are as they were
+pub record Behind (before : List ℕ) (h : Heard) (after : List ℕ) (k : Heard) : Type 0 where
+  pub grown : h .bytes ≤ k .bytes
+  pub stays : drop (k .bytes) after ≡ drop (k .bytes) before
 
 -- the world that an image, the writes that are not safe yet and what was heard are
 abbrev pub world : List ℕ → Unflushed → List ℕ → Heard → World
@@ -104,10 +109,11 @@ written-answers (a ∷ rest) = written-answer a ++ written-answers rest
 abbrev pub lived : Limits → List ℕ → List (RefT (List ℕ)) → ℕ → List Act
 lived l image rows budget = take budget (acts (first-program l) (first-program l .start (device-of image)) (rows-read rows))
 
--- what a life leaves that a row cut: the answers among its acts are heard, and the image is what the row leaves after these acts, which is what a cut after them can leave
-pub record Lived (l : Limits) (image : List ℕ) (rows : List (RefT (List ℕ))) (budget : ℕ) (row image-after said-after : List ℕ) (h : Heard) : Type 0 where
+-- what a life leaves that a row cut: the answers among its acts are heard, behind them the lent bytes are as they were, and the image is what the row leaves after these acts, which is what a cut after them can leave
+pub record Lived (l : Limits) (image : List ℕ) (rows : List (RefT (List ℕ))) (budget : ℕ) (row said-before image-after said-after : List ℕ) (h : Heard) : Type 0 where
   pub counted : h .answers ≡ length (said (lived l image rows budget))
   pub spoken : spoken-in said-after h ≡ written-answers (said (lived l image rows budget))
+  pub behind : drop (h .bytes) said-after ≡ drop (h .bytes) said-before
   pub cut : (k : ℕ) → device-of image-after k ≡ cut-by row (dones {A = Answer} (at-rest (device-of image)) (lived l image rows budget)) k
   pub left : Left-by (device-of image) (lived l image rows budget) (device-of image-after)
 
@@ -141,5 +147,5 @@ Refused-for None l image place = (place ≡ 1) × ((ts : List Call) → 512 * bl
 -- how a life ends: it was lived, and kept the book; or it was refused, and all is as it was
 abbrev pub Ended : Limits → Lent → List (RefT (List ℕ)) → ℕ → List ℕ → List ℕ → List ℕ → List ℕ → List ℕ → Result Heard ℕ → Type 0
 Ended l m rows budget row image bs image-after bs-after (Ok h) =
-    (lacks l m (length bs) (length rows) ≡ None) × (512 * blocks-for l ≤ length image) × Lived l image rows budget row image-after bs-after h × Keeps-the-book l image rows image-after bs-after h
+    (lacks l m (length bs) (length rows) ≡ None) × (512 * blocks-for l ≤ length image) × Lived l image rows budget row bs image-after bs-after h × Keeps-the-book l image rows image-after bs-after h
 Ended l m rows budget row image bs image-after bs-after (Err place) = (image-after ≡ image) × (bs-after ≡ bs) × Refused-for (lacks l m (length bs) (length rows)) l image place

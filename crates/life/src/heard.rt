@@ -7,7 +7,7 @@ ghost use lib.Dec.{leb};
 ghost use lib.ListN.{length, take};
 ghost use Rattle.bank.specs.Promise.{readable, all-readable};
 ghost use Rattle.wire.specs.Format.{read-call};
-ghost use Rattle.life.specs.Life.{spoken-in, free-in, Listens, rows-read};
+ghost use Rattle.life.specs.Life.{spoken-in, free-in, Listens, Behind, rows-read};
 use wire::answer::most_answer;
 
 // How many answers were heard, and how many bytes they have.
@@ -48,14 +48,6 @@ pub(crate) fn can_hear(said: &[u8], calls: &[&[u8]]) -> bool
     true
 }
 
-// Copies one part over another that is as long.
-fn fill(part: &mut [u8], from: &[u8])
-    requires { ⌜ length (now part) ≡ length (now from) ⌝ }
-    ensures { λ _. ⌜ now (part .exit) ≡ now (from .entry) ⌝ }
-{
-    part.copy_from_slice(from);
-}
-
 impl Heard {
     // Hears an answer, behind the others.
     pub(crate) fn hear(&mut self, said: &mut [u8], answer: &[u8])
@@ -64,12 +56,13 @@ impl Heard {
         requires room { ⌜ length (now answer) ≤ free-in (now said) (now self) ⌝ }
         ensures listens { λ _. ⌜ Listens (now (said .exit)) (now (self .exit)) ⌝ }
         ensures spoken { λ _. ⌜ spoken-in (now (said .exit)) (now (self .exit)) ≡ spoken-in (now (said .entry)) (now (self .entry)) ++ now (answer .entry) ⌝ }
+        ensures behind { λ _. ⌜ Behind (now (said .entry)) (now (self .entry)) (now (said .exit)) (now (self .exit)) ⌝ }
         ensures answers { λ _. ⌜ now (self .exit) .answers ≡ now (self .entry) .answers + 1 ⌝ }
         ensures free { λ _. ⌜ free-in (now (said .exit)) (now (self .exit)) ≡ free-in (now (said .entry)) (now (self .entry)) - length (now (answer .entry)) ⌝ }
     {
         let at = self.bytes;
         let end = at + answer.len();
-        fill(&mut said[at..end], answer);
+        said[at..end].copy_from_slice(answer);
         self.bytes = end;
         self.answers += 1;
     }

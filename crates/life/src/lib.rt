@@ -16,7 +16,7 @@ ghost use Rattle.blocks.specs.Blocks.{device-of};
 ghost use Rattle.sim.specs.Held.{done};
 ghost use Rattle.sim.specs.Sims.{holds, room, Sound};
 ghost use Rattle.session.specs.Session.{left, memory, Ready, Same};
-ghost use Rattle.life.specs.Life.{world, after-acts, space, Acted, Fits, Fits-on, Listens, free-in, rows-read, Lived, has-room, Ended};
+ghost use Rattle.life.specs.Life.{world, after-acts, space, Acted, Fits, Fits-on, Listens, Behind, free-in, rows-read, Lived, has-room, Ended};
 use blocks::BLOCK;
 use blocks::blocks_in;
 use columns::limits::Limits;
@@ -69,6 +69,7 @@ fn act(
     ensures same { λ _. ⌜ Same (now (session .entry)) (now (session .exit)) ⌝ }
     ensures sound { λ _. ⌜ Sound (now (image .exit)) (now (unflushed .exit)) ⌝ }
     ensures listens { λ _. ⌜ Listens (now (said .exit)) (now (heard .exit)) ⌝ }
+    ensures behind { λ _. ⌜ Behind (now (said .entry)) (now (heard .entry)) (now (said .exit)) (now (heard .exit)) ⌝ }
     ensures room { λ _. ⌜ room (now (unflushed .exit)) ≡ room (now (unflushed .entry)) ⌝ }
     ensures fits { λ _. ⌜ Fits-on (space (now (image .entry)) (now (unflushed .entry)) (now (said .entry)) (now (heard .entry))) (left (now (session .entry))) (space (now (image .exit)) (now (unflushed .exit)) (now (said .exit)) (now (heard .exit))) (left (now (session .exit))) ⌝ }
 {
@@ -99,6 +100,7 @@ fn finish(
     ensures same { λ _. ⌜ Same (now (session .entry)) (now (session .exit)) ⌝ }
     ensures sound { λ _. ⌜ Sound (now (image .exit)) (now (unflushed .exit)) ⌝ }
     ensures listens { λ _. ⌜ Listens (now (said .exit)) (now (heard .exit)) ⌝ }
+    ensures behind { λ _. ⌜ Behind (now (said .entry)) (now (heard .entry)) (now (said .exit)) (now (heard .exit)) ⌝ }
     ensures room { λ _. ⌜ room (now (unflushed .exit)) ≡ room (now (unflushed .entry)) ⌝ }
     ensures rests { λ r. ⌜ (0 < r → Fits-on (space (now (image .entry)) (now (unflushed .entry)) (now (said .entry)) (now (heard .entry))) (left (now (session .entry))) (space (now (image .exit)) (now (unflushed .exit)) (now (said .exit)) (now (heard .exit))) []) ⌝ }
 {
@@ -127,6 +129,7 @@ fn live(
     requires listens { ⌜ Listens (now said) (now heard) ⌝ }
     requires free { ⌜ 17 * length (now calls) ≤ free-in (now said) (now heard) ⌝ }
     ensures world { λ _. ⌜ world (now (image .exit)) (now (unflushed .exit)) (now (said .exit)) (now (heard .exit)) ≡ after-acts (world (now (image .entry)) (now (unflushed .entry)) (now (said .entry)) (now (heard .entry))) (take budget (acts (first-program (limits (now (session .entry) .ledger))) (memory (now (session .entry))) (rows-read (now (calls .entry))))) ⌝ }
+    ensures behind { λ _. ⌜ Behind (now (said .entry)) (now (heard .entry)) (now (said .exit)) (now (heard .exit)) ⌝ }
     ensures sound { λ _. ⌜ Sound (now (image .exit)) (now (unflushed .exit)) ⌝ }
 {
     let mut left = budget;
@@ -156,7 +159,7 @@ fn live_and_cut(
     requires places { ⌜ 0 < length (now places) ⌝ }
     requires blocks { ⌜ 512 ≤ length (now blocks) ⌝ }
     requires free { ⌜ 17 * length (now calls) ≤ length (now said) ⌝ }
-    ensures { λ r. ⌜ Lived (limits (now (session .entry) .ledger)) (now (image .entry)) (now (calls .entry)) budget (now (row .entry)) (now (image .exit)) (now (said .exit)) r ⌝ }
+    ensures { λ r. ⌜ Lived (limits (now (session .entry) .ledger)) (now (image .entry)) (now (calls .entry)) budget (now (row .entry)) (now (said .entry)) (now (image .exit)) (now (said .exit)) r ⌝ }
 {
     let mut unflushed = Unflushed::new(places, blocks);
     let mut heard = Heard {

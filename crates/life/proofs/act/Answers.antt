@@ -24,6 +24,7 @@ returns-in-Say c =
       same = o .same;
       sound = c .pre .sound;
       listens = p .listens;
+      behind = p .behind;
       room = refl;
       fits = said-fits image u said also h k s t rs e (o .act) (p .free);
     }

@@ -3,7 +3,7 @@ use Prim.Native.Nat.{_-_}
 use lib.ListN.{length, take}
 use Rattle.sim.specs.Sims.{Sound, room}
 use Rattle.session.specs.Session.{left, Same, Ready}
-use Rattle.life.specs.Life.{world, after-acts, space, Fits-on, Listens}
+use Rattle.life.specs.Life.{world, after-acts, space, Fits-on, Listens, Behind}
 use Rattle.life.proofs.finish.Given as given
 
 -- what is left of the run gives what the whole run gives
@@ -15,6 +15,7 @@ Inv-loop-left l =
     × Same (l .entry .session) (l .session)
     × Sound (l .image) (l .unflushed)
     × Listens (l .said) (l .heard)
+    × Behind (l .entry .said) (l .entry .heard) (l .said) (l .heard)
     × (room (l .unflushed) ≡ room (l .entry .unflushed))
     × Fits-on (space (l .entry .image) (l .entry .unflushed) (l .entry .said) (l .entry .heard)) (left (l .entry .session)) (space (l .image) (l .unflushed) (l .said) (l .heard)) (left (l .session))
 

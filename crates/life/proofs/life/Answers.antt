@@ -85,10 +85,10 @@ returns c =
     let image = c .live-and-cut-heard .last .image in
     let said = c .live-and-cut-heard .last .said in
     let h = c .live-and-cut-heard .result in
-    let v : Lived l (c .args .image .now) (c .args .calls .now) (c .args .budget) (c .args .row .now) image said h =
-    subst (λ (x : Limits). Lived x (c .args .image .now) (c .args .calls .now) (c .args .budget) (c .args .row .now) image said h) (s .1 ∙ o .1 .limits-are) (c .live-and-cut-heard .ensures) in
+    let v : Lived l (c .args .image .now) (c .args .calls .now) (c .args .budget) (c .args .row .now) (c .args .said .now) image said h =
+    subst (λ (x : Limits). Lived x (c .args .image .now) (c .args .calls .now) (c .args .budget) (c .args .row .now) (c .args .said .now) image said h) (s .1 ∙ o .1 .limits-are) (c .live-and-cut-heard .ensures) in
     record {
-      ended = (a .0, big, v, keeps-the-book l (c .args .image .now) (c .args .calls .now) (c .args .budget) (c .args .row .now) image said h (a .1) (c .is-room .ensures .readable f) v);
+      ended = (a .0, big, v, keeps-the-book l (c .args .image .now) (c .args .calls .now) (c .args .budget) (c .args .row .now) (c .args .said .now) image said h (a .1) (c .is-room .ensures .readable f) v);
       core = first-core-by;
       lives = first-lives;
     }

@@ -6,7 +6,7 @@ use Rattle.model.specs.First.{first-program}
 use Rattle.ledger.specs.Meaning.{limits}
 use Rattle.sim.specs.Sims.{Sound, room}
 use Rattle.session.specs.Session.{memory, Ready}
-use Rattle.life.specs.Life.{world, after-acts, Listens, free-in, rows-read}
+use Rattle.life.specs.Life.{world, after-acts, Listens, Behind, free-in, rows-read}
 use Rattle.life.proofs.live.Given as given
 
 -- what is left of the life gives what the whole life gives
@@ -18,5 +18,6 @@ Inv-loop-row l =
     × (limits (l .session .ledger) ≡ limits (l .entry .session .ledger))
     × Sound (l .image) (l .unflushed)
     × Listens (l .said) (l .heard)
+    × Behind (l .entry .said) (l .entry .heard) (l .said) (l .heard)
     × (room (l .unflushed) ≡ room (l .entry .unflushed))
     × (0 < l .left → (l .unflushed .count ≡ 0) × (17 * (length (l .calls) - l .row-index) ≤ free-in (l .said) (l .heard)))

@@ -22,4 +22,4 @@ returns c =
     let s = c .args .session .now in
     let o = c .new-unflushed .ensures in
     lived-and-cut (limits (s .ledger)) (c .args .image .now) (c .args .calls .now) (c .args .budget) (c .args .row .now) (c .live .last .image) (c .cut .last .image) (c .args .said .now) (c .live .last .said)
-    (c .new-unflushed .result) (c .live .last .unflushed) (c .live .last .heard) (memory s) (c .pre .started) (o .held (c .args .image .now)) (c .live .ensures .world) (c .cut .ensures .row) (c .cut .ensures .left)
+    (c .new-unflushed .result) (c .live .last .unflushed) (c .live .last .heard) (memory s) (c .pre .started) (o .held (c .args .image .now)) (c .live .ensures .world) (c .cut .ensures .row) (c .cut .ensures .left) (c .live .ensures .behind)
