@@ -37,6 +37,7 @@ impl<'a> Unflushed<'a> {
         ensures sound { λ r. ⌜ ((image : List ℕ) → Sound image r) ⌝ }
         ensures held { λ r. ⌜ ((image : List ℕ) → holds image r ≡ at-rest (device-of image)) ⌝ }
         ensures room { λ r. ⌜ room r ≡ min (length (now (places .entry))) (length (now (blocks .entry)) / 512) ⌝ }
+        ensures count { λ r. ⌜ r .count ≡ 0 ⌝ }
     {
         Unflushed {
             places,

@@ -5,4 +5,4 @@ use Rattle.sim.proofs.Unflushed.new.Needs as need
 
 pub returns : need.returns
 unfolding writes-in
-returns c = record { sound = λ image. record { numbered = omega arith; whole = omega arith; inside = λ i lt. omega arith }; held = λ image. refl; room = refl }
+returns c = record { sound = λ image. record { numbered = omega arith; whole = omega arith; inside = λ i lt. omega arith }; held = λ image. refl; room = refl; count = refl }
