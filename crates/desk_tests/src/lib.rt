@@ -1,0 +1,4 @@
+// The desk by examples: tables of calls and what they are answered.
+pub mod edges;
+pub mod rows;
+pub mod worked;
