@@ -5,12 +5,13 @@ ghost use lib.Dec.{ltb, leb};
 ghost use lib.ListN.{length};
 ghost use Prim.Native.Nat.{_<_, _≤_};
 ghost use Rattle.std.specs.declared.option.Option.the-variants.{Some, None};
-ghost use Rattle.bank.specs.Calls.{opens, rates-in};
+ghost use Rattle.bank.specs.Calls.{opens, rated, rates-in};
 ghost use Rattle.ledger.specs.Meaning.{bank, limits};
 ghost use Rattle.ledger.specs.Whole.{Whole};
 ghost use Rattle.desk.specs.Desk.{Kept, Served, reply, took};
 use crate::MOST;
 use crate::refusal::Refusal;
+use columns::rates::Rate;
 use ledger::Ledger;
 use wire::answer::Answer;
 
@@ -61,4 +62,40 @@ pub(crate) fn open(ledger: &mut Ledger, limit: u64, rate: u64) -> Result<Answer,
     let number = ledger.add_account(limit, rate);
     ledger.count_call();
     Ok(Answer::Number(number as u64))
+}
+
+// A rate for which there is room.
+fn settable(ledger: &Ledger, rate: u32) -> Option<u32>
+    requires { ⌜ Whole (now ledger) ⌝ }
+    ensures { λ r. ⌜ elim r [ Some x ↦ (x ≡ rate) × (ltb (rates-in (bank (now (ledger .entry)) .accounts)) (limits (now (ledger .entry)) .rates) ≡ true) | None ↦ ltb (rates-in (bank (now (ledger .entry)) .accounts)) (limits (now (ledger .entry)) .rates) ≡ false ] ⌝ }
+{
+    if ledger.has_room_for_rate() {
+        Some(rate)
+    } else {
+        None
+    }
+}
+
+// Sets the rate of an account from today on.
+pub fn set_rate(ledger: &mut Ledger, account: u64, rate: u64) -> Result<Answer, Refusal>
+    requires { ⌜ Kept (now ledger) ⌝ }
+    ensures { λ r. ⌜ Served (now (ledger .entry)) (now (ledger .exit)) (rated account rate) (reply r) (took r) ⌝ }
+{
+    let Some(rate) = rate_of(rate) else {
+        return Err(Refusal::Rate);
+    };
+    let Some(account) = ledger.account(account) else {
+        return Err(Refusal::Account { field: 0 });
+    };
+    let Some(rate) = settable(ledger, rate) else {
+        return Err(Refusal::NoRoom);
+    };
+    let since = ledger.today();
+    ledger.add_rate(Rate {
+        account,
+        since,
+        rate,
+    });
+    ledger.count_call();
+    Ok(Answer::Number(0))
 }
