@@ -73,11 +73,11 @@ module _ (n : Bank) (s : Statement) (b : Booking) (q : b ≡ booking-at n (s .ne
   more : lines-left n s ≡ pick (is-line (s .account) (s .first) (s .last) b) (b ∷ lines-left n passed) (lines-left n passed)
   more = lines-more (s .account) (s .first) (s .last) (n .bookings) (s .next) u ∙ ap (λ (x : Booking). pick (is-line (s .account) (s .first) (s .last) x) (x ∷ lines-left n passed) (lines-left n passed)) (sym q)
 
-  pub line-is : is-line (s .account) (s .first) (s .last) b ≡ true → lines-left n s ≡ b ∷ lines-left n passed
-  line-is e = more ∙ ap (λ (t : Bool). pick t (b ∷ lines-left n passed) (lines-left n passed)) e
+  pub line-is : (t : Bool) → t ≡ is-line (s .account) (s .first) (s .last) b → t ≡ true → lines-left n s ≡ b ∷ lines-left n passed
+  line-is t w e = more ∙ ap (λ (x : Bool). pick x (b ∷ lines-left n passed) (lines-left n passed)) (sym w ∙ e)
 
-  pub line-is-not : is-line (s .account) (s .first) (s .last) b ≡ false → lines-left n s ≡ lines-left n passed
-  line-is-not e = more ∙ ap (λ (t : Bool). pick t (b ∷ lines-left n passed) (lines-left n passed)) e
+  pub line-is-not : (t : Bool) → t ≡ is-line (s .account) (s .first) (s .last) b → t ≡ false → lines-left n s ≡ lines-left n passed
+  line-is-not t w e = more ∙ ap (λ (x : Bool). pick x (b ∷ lines-left n passed) (lines-left n passed)) (sym w ∙ e)
 
   pub line-late : In-order n → s .last < b .on → lines-left n s ≡ []
   line-late o h = lines-late (s .account) (s .first) (s .last) n o (s .next) u (omega (arith, h, ap (λ (x : Booking). x .on) q))

@@ -46,7 +46,7 @@ fn enterable(ledger: &Ledger, rate: u32) -> Option<u32>
 }
 
 // Opens an account with a limit and a rate from today on.
-pub(crate) fn open(ledger: &mut Ledger, limit: u64, rate: u64) -> Result<Answer, Refusal>
+pub fn open(ledger: &mut Ledger, limit: u64, rate: u64) -> Result<Answer, Refusal>
     requires { ⌜ Kept (now ledger) ⌝ }
     ensures { λ r. ⌜ Served (now (ledger .entry)) (now (ledger .exit)) (opens limit rate) (reply r) (took r) ⌝ }
 {

@@ -16,7 +16,7 @@ use wire::call::Call;
 pub mod account;
 pub mod day;
 pub mod opening;
-mod order;
+pub mod order;
 mod question;
 pub mod refusal;
 pub mod statement;

@@ -63,7 +63,7 @@ fn receivable(ledger: &Ledger, payee: u32, amount: u64) -> Option<u64>
 }
 
 // Moves an amount, of a value day, from one account to another.
-pub(crate) fn order(
+pub fn order(
     ledger: &mut Ledger,
     value: u64,
     from: u64,

@@ -1,5 +1,4 @@
 use mathlib.Core.Path.{_≡_, sym, _∙_}
-use mathlib.Core.Bool.{true, false}
 use native.Mathlib.Omega.{arith}
 use Rattle.ledger.specs.Meaning.{bank}
 use Rattle.wire.specs.Booked.{booked}
@@ -15,15 +14,13 @@ returns-then-self-booking c =
 pub returns-then-lists : need.returns-then-lists
 returns-then-lists c =
     let g = c .args .ledger .now in
-    let e : c .lists .result ≡ true = c .if-lists .taken in
     sym (c .loop-self .inv)
-    ∙ line-is (bank g) (c .loop-self .self) (booked (c .booking-booking .result)) (c .booking-booking .ensures) (omega (arith, c .booking-count .ensures)) (sym (c .lists .ensures) ∙ e)
+    ∙ line-is (bank g) (c .loop-self .self) (booked (c .booking-booking .result)) (c .booking-booking .ensures) (omega (arith, c .booking-count .ensures)) (c .lists .result) (c .lists .ensures) (c .if-lists .taken)
 
 pub loop-self-again : need.loop-self-again
 loop-self-again c =
     let g = c .args .ledger .now in
-    let e : c .lists .result ≡ false = c .if-lists .left in
-    sym (line-is-not (bank g) (c .loop-self .self) (booked (c .booking-booking .result)) (c .booking-booking .ensures) (omega (arith, c .booking-count .ensures)) (sym (c .lists .ensures) ∙ e))
+    sym (line-is-not (bank g) (c .loop-self .self) (booked (c .booking-booking .result)) (c .booking-booking .ensures) (omega (arith, c .booking-count .ensures)) (c .lists .result) (c .lists .ensures) (c .if-lists .left))
     ∙ c .loop-self .inv
 
 pub returns : need.returns
