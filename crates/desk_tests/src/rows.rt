@@ -33,7 +33,7 @@ pub enum Ask {
 pub type Row = (Ask, [u64; 4], [u64; 3]);
 
 // The call of a row.
-fn call_of(ask: Ask, numbers: [u64; 4]) -> Call {
+pub fn call_of(ask: Ask, numbers: [u64; 4]) -> Call {
     let [a, b, c, d] = numbers;
     match ask {
         Ask::Open => Call::Open { limit: a, rate: b },
@@ -65,7 +65,7 @@ fn call_of(ask: Ask, numbers: [u64; 4]) -> Call {
 }
 
 // An answer as three numbers.
-fn told(answer: Answer) -> [u64; 3] {
+pub fn told(answer: Answer) -> [u64; 3] {
     match answer {
         Answer::Refused { reason, place } => [0, reason, place],
         Answer::Number(n) => [1, n, 0],
