@@ -1,21 +1,21 @@
 -- Laws of chains.
 use mathlib.Core.Path.{_≡_, refl, sym, ap, _∙_}
-use mathlib.Core.Logic.{_≢_, _⊎_, inl, inr}
+use mathlib.Core.Logic.{_≢_, inl, inr}
 use mathlib.Core.Bool.{Bool, true, false}
-use mathlib.Core.List.{List, [], _∷_, _++_}
-use Prim.Native.Nat.{ℕ, zero, suc, _+_, _-_, _*_, _≤_, _<_}
+use Prim.Native.Nat.{ℕ, zero, suc, _+_, _≤_, _<_}
 use native.Mathlib.Omega.{arith}
 use native.Mathlib.Numerals.{add-one}
 use lib.Dec.{eqb}
-use lib.ListN.{length, getD, set}
+use lib.ListN.{length}
 use denote.Ref.{now}
 use Rattle.std.proofs.shelf.Tests.{cases-eq, eq-eqb, ne-eqb}
 use Rattle.bank.specs.Book.{pick, Booking}
 use Rattle.bank.specs.Sums.{tally}
 use Rattle.columns.specs.Firsts.{first-of}
 use Rattle.columns.specs.Rows.{row}
-use Rattle.columns.specs.Links.{latest, Linkable, Chained, Begun, Linked}
+use Rattle.columns.specs.Links.{latest, Linkable, Chained, Begun, Linked, Begun-both, Linked-both}
 use Rattle.columns.specs.declared.bookings.Bookings.{Bookings}
+use Rattle.columns.specs.declared.chains.Chain.{Chain}
 use Rattle.columns.specs.declared.chains.Chains.{Chains}
 use Rattle.columns.proofs.Cell.{cell-same, cell-other, cell-length}
 use Rattle.columns.proofs.Put.{tally-more}
@@ -68,16 +68,21 @@ tally-latest t p a c (suc n) h =
           ∙ tally-latest t p a c n h ∙ ap (λ m. tally t (first-of (row c) m)) (sym (latest-no (λ i. p (row c i)) a n q))
     ]
 
-pub chained-same : (c : Chains) (f g : ℕ → ℕ) (n m : ℕ) → Chained c f n m → ((k : ℕ) → k < n → g k ≡ f k) → Chained c g n m
+pub chained-same : (c : Chain) (f g : ℕ → ℕ) (n m : ℕ) → Chained c f n m → ((k : ℕ) → k < n → g k ≡ f k) → Chained c g n m
 chained-same c f g n m h e = record {
   heads = λ a u. h .heads a u ∙ sym (latest-same f g a n e);
   links = λ i u. h .links i u ∙ sym (latest-same f g (f i) i (λ k v. e k (omega arith))) ∙ ap (λ p. latest g p i) (sym (e i u));
 }
 
-pub linkable-linked : (c d : Chains) (a n m b : ℕ) → Linkable c m b → Linked c d a n → Linkable d m b
-linkable-linked c d a n m b h l = record { accounts = cell-length _ _ _ _ _ (l .newest) (h .accounts); bookings = cell-length _ _ _ _ _ (l .before) (h .bookings) }
+pub linkable-linked : (c d : Chains) (x : Booking) (n m b : ℕ) → Linkable c m b → Linked-both c d x n → Linkable d m b
+linkable-linked c d x n m b h l = record {
+  heads-in = cell-length _ _ _ _ _ (l .incoming .newest) (h .heads-in);
+  links-in = cell-length _ _ _ _ _ (l .incoming .before) (h .links-in);
+  heads-out = cell-length _ _ _ _ _ (l .outgoing .newest) (h .heads-out);
+  links-out = cell-length _ _ _ _ _ (l .outgoing .before) (h .links-out);
+}
 
-pub chained-push : (c d : Chains) (f g : ℕ → ℕ) (a n m : ℕ) → m ≤ length (now (c .newest)) → n < length (now (c .before)) → Chained c f n m → Linked c d a n → a < m →
+pub chained-push : (c d : Chain) (f g : ℕ → ℕ) (a n m : ℕ) → m ≤ length (now (c .newest)) → n < length (now (c .before)) → Chained c f n m → Linked c d a n → a < m →
     ((k : ℕ) → k < n → g k ≡ f k) → g n ≡ a → Chained d g (n + 1) m
 chained-push c d f g a n m o v h l u e q =
     let s = chained-same c f g n m h e in
@@ -98,10 +103,18 @@ unfolding latest
 latest-absent f a zero h = refl
 latest-absent f a (suc n) h = latest-no f a n (h n (omega arith)) ∙ latest-absent f a n (λ k u. h k (omega arith))
 
-pub linkable-begun : (c d : Chains) (a m b : ℕ) → Linkable c m b → Begun c d a → Linkable d m b
-linkable-begun c d a m b h l = record { accounts = cell-length _ _ _ _ _ (l .newest) (h .accounts); bookings = rw (l .before) (h .bookings) }
+pub linkable-begun : (c d : Chains) (a m b : ℕ) → Linkable c m b → Begun-both c d a → Linkable d m b
+linkable-begun c d a m b h l = record {
+  heads-in = cell-length _ _ _ _ _ (l .incoming .newest) (h .heads-in);
+  links-in = rw (l .incoming .before) (h .links-in);
+  heads-out = cell-length _ _ _ _ _ (l .outgoing .newest) (h .heads-out);
+  links-out = rw (l .outgoing .before) (h .links-out);
+}
 
-pub chained-begun : (c d : Chains) (f : ℕ → ℕ) (n m : ℕ) → m < length (now (c .newest)) → Chained c f n m → Begun c d m → ((k : ℕ) → k < n → f k < m) → Chained d f n (m + 1)
+pub linkable-less : (c : Chains) (m b n e : ℕ) → n ≤ m → e ≤ b → Linkable c m b → Linkable c n e
+linkable-less c m b n e u v h = record { heads-in = omega arith; links-in = omega arith; heads-out = omega arith; links-out = omega arith }
+
+pub chained-begun : (c d : Chain) (f : ℕ → ℕ) (n m : ℕ) → m < length (now (c .newest)) → Chained c f n m → Begun c d m → ((k : ℕ) → k < n → f k < m) → Chained d f n (m + 1)
 chained-begun c d f n m u h l p = record {
   heads = λ a v. elim (cases-eq a m) [
     | inl q ↦ rw q (cell-same _ _ m _ (l .newest) u ∙ sym (latest-absent f m n (λ k w z. omega (arith, p k w, z))))

@@ -1,12 +1,12 @@
 -- Laws of bookings and rates in columns: one more row, and a row that is marked.
 use mathlib.Core.Path.{_≡_, refl, sym, ap, _∙_}
-use mathlib.Core.Logic.{_≢_, _⊎_, inl, inr}
-use mathlib.Core.Bool.{Bool, true, false}
-use mathlib.Core.List.{List, [], _∷_, _++_}
+use mathlib.Core.Logic.{_≢_, inl, inr}
+use mathlib.Core.Bool.{Bool}
+use mathlib.Core.List.{[], _∷_}
 use Prim.Native.Nat.{ℕ, zero, suc, _+_, _*_, _≤_, _<_}
 use native.Mathlib.Omega.{arith}
 use lib.Dec.{eqb}
-use lib.ListN.{length, getD, set}
+use lib.ListN.{getD, set}
 use denote.Ref.{now}
 use Rattle.std.proofs.shelf.Lists.{getD-set-same, getD-set-other, getD-append-left, getD-push}
 use Rattle.std.proofs.shelf.Tests.{cases-eq}
@@ -21,7 +21,7 @@ use Rattle.wire.specs.declared.booking.Kind.{Kind}
 use Rattle.wire.specs.declared.booking.Kind.the-variants.{Order, Interest}
 use Rattle.columns.specs.Firsts.{first-of}
 use Rattle.columns.specs.Rows.{row, rows, Sound, Appended, Marked}
-use Rattle.columns.specs.RateRows.{rate-row, rate-rows, Rated, Rate-added}
+use Rattle.columns.specs.RateRows.{rate-row, Rated, Rate-added}
 use Rattle.columns.specs.declared.bookings.Bookings.{Bookings}
 use Rattle.columns.specs.declared.rates.Rates.{Rates}
 use Rattle.columns.proofs.First.{length-first, getD-first, first-more, first-none, first-push, first-set}

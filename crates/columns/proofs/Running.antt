@@ -1,11 +1,10 @@
 -- Laws of running sums: after one more booking, after one is taken back, and with one more account.
-use mathlib.Core.Path.{_≡_, refl, sym, ap, _∙_}
-use mathlib.Core.Logic.{_≢_, _⊎_, inl, inr}
-use mathlib.Core.Bool.{Bool, true, false, _&&_}
+use mathlib.Core.Path.{_≡_, sym, ap, _∙_}
+use mathlib.Core.Logic.{_≢_, inl, inr}
+use mathlib.Core.Bool.{Bool}
 use mathlib.Core.List.{List, [], _∷_, _++_}
-use Prim.Native.Nat.{ℕ, zero, suc, _+_, _-_, _*_, _≤_, _<_}
+use Prim.Native.Nat.{ℕ, _+_, _-_, _≤_, _<_}
 use native.Mathlib.Omega.{arith}
-use lib.Dec.{eqb}
 use lib.ListN.{length, getD, set}
 use denote.Ref.{now}
 use Rattle.std.proofs.shelf.Tests.{cases-eq}
@@ -14,9 +13,9 @@ use Rattle.bank.specs.Book.{pick, Booking}
 use Rattle.bank.specs.Sums.{tally, orders}
 use Rattle.bank.proofs.Tally.{tally-append, tally-set}
 use Rattle.columns.specs.Parts.{live, live-order, live-to, live-from}
-use Rattle.columns.specs.Cells.{limits-in, Roomy, Sums, Account-added, Credited, Debited}
+use Rattle.columns.specs.Cells.{limits-in, Roomy, Sums, Account-added, Credited, Debited, Summed}
 use Rattle.columns.specs.declared.accounts.Accounts.{Accounts}
-use Rattle.columns.proofs.First.{first-same, first-push}
+use Rattle.columns.proofs.First.{first-push}
 use Rattle.columns.specs.Firsts.{first-of}
 use Rattle.columns.proofs.Cell.{cell-same, cell-other, cell-length}
 
@@ -107,20 +106,8 @@ module _ (c : Accounts) (bs : List Booking) (i : ℕ) (b y none : Booking) (r : 
   pub covers-ordered : live-order b ≤ getD (now (c .ordered)) (b .to) 0
   covers-ordered = column-covers orders (c .count) (now (c .ordered)) (b .to) (live-order b) bs i b y none t v q (gives-order b) (order-back y z) (s .ordered)
 
-pub roomy-credited : (c d : Accounts) (b : Booking) → Roomy c → Credited c d b → Roomy d
-roomy-credited c d b r e = record {
-  two = omega arith;
-  count = omega arith;
-  capacity = omega arith;
-  limit = rw (e .limit, e .capacity) (r .limit);
-  came = rw (e .capacity) (cell-length _ _ _ _ _ (e .came) (r .came));
-  left = rw (e .capacity) (cell-length _ _ _ _ _ (e .left) (r .left));
-  ordered = rw (e .capacity) (cell-length _ _ _ _ _ (e .ordered) (r .ordered));
-  small = λ a u. rw (e .limit) (r .small a (omega arith));
-}
-
-pub roomy-debited : (c d : Accounts) (b : Booking) → Roomy c → Debited c d b → Roomy d
-roomy-debited c d b r e = record {
+pub roomy-summed : (c d : Accounts) (f t x y z : ℕ) → Roomy c → Summed c d f t x y z → Roomy d
+roomy-summed c d f t x y z r e = record {
   two = omega arith;
   count = omega arith;
   capacity = omega arith;

@@ -55,20 +55,21 @@ pub record Account-added (c d : Accounts) (l : ℕ) : Type 0 where
   pub count : d .count ≡ c .count + 1
   pub capacity : d .capacity ≡ c .capacity
 
--- a booking added to the running sums
-pub record Credited (c d : Accounts) (b : Booking) : Type 0 where
+-- the running sums of two accounts written: what left the one, and what came to the other, in all and by orders
+pub record Summed (c d : Accounts) (f t gone come order : ℕ) : Type 0 where
   pub limit : now (d .limit) ≡ now (c .limit)
-  pub came : now (d .came) ≡ set (now (c .came)) (b .to) (getD (now (c .came)) (b .to) 0 + live b)
-  pub left : now (d .left) ≡ set (now (c .left)) (b .from) (getD (now (c .left)) (b .from) 0 + live b)
-  pub ordered : now (d .ordered) ≡ set (now (c .ordered)) (b .to) (getD (now (c .ordered)) (b .to) 0 + live-order b)
+  pub came : now (d .came) ≡ set (now (c .came)) t come
+  pub left : now (d .left) ≡ set (now (c .left)) f gone
+  pub ordered : now (d .ordered) ≡ set (now (c .ordered)) t order
   pub count : d .count ≡ c .count
   pub capacity : d .capacity ≡ c .capacity
 
+-- a booking added to the running sums
+abbrev pub Credited : Accounts → Accounts → Booking → Type 0
+Credited c d b =
+    Summed c d (b .from) (b .to) (getD (now (c .left)) (b .from) 0 + live b) (getD (now (c .came)) (b .to) 0 + live b) (getD (now (c .ordered)) (b .to) 0 + live-order b)
+
 -- a booking taken again from the running sums
-pub record Debited (c d : Accounts) (b : Booking) : Type 0 where
-  pub limit : now (d .limit) ≡ now (c .limit)
-  pub came : now (d .came) ≡ set (now (c .came)) (b .to) (getD (now (c .came)) (b .to) 0 - live b)
-  pub left : now (d .left) ≡ set (now (c .left)) (b .from) (getD (now (c .left)) (b .from) 0 - live b)
-  pub ordered : now (d .ordered) ≡ set (now (c .ordered)) (b .to) (getD (now (c .ordered)) (b .to) 0 - live-order b)
-  pub count : d .count ≡ c .count
-  pub capacity : d .capacity ≡ c .capacity
+abbrev pub Debited : Accounts → Accounts → Booking → Type 0
+Debited c d b =
+    Summed c d (b .from) (b .to) (getD (now (c .left)) (b .from) 0 - live b) (getD (now (c .came)) (b .to) 0 - live b) (getD (now (c .ordered)) (b .to) 0 - live-order b)

@@ -6,7 +6,8 @@ use lib.ListN.{length, getD, set}
 use denote.Ref.{now}
 use Rattle.std.specs.declared.option.Option.{Option}
 use Rattle.std.specs.declared.option.Option.the-variants.{Some, None}
-use Rattle.bank.specs.Book.{pick}
+use Rattle.bank.specs.Book.{pick, Booking}
+use Rattle.columns.specs.declared.chains.Chain.{Chain}
 use Rattle.columns.specs.declared.chains.Chains.{Chains}
 
 -- what a cell holds: one more than a booking's number, or 0
@@ -19,27 +20,43 @@ unfoldable pub latest : (ℕ → ℕ) → ℕ → ℕ → ℕ
 latest f a zero = 0
 latest f a (suc n) = pick (eqb (f n) a) (suc n) (latest f a n)
 
--- room for m accounts and b bookings
-pub record Linkable (c : Chains) (m b : ℕ) : Type 0 where
-  pub accounts : m ≤ length (now (c .newest))
-  pub bookings : b ≤ length (now (c .before))
-
 -- chains of the first n bookings by a party, through m accounts
-pub record Chained (c : Chains) (f : ℕ → ℕ) (n m : ℕ) : Type 0 where
+pub record Chained (c : Chain) (f : ℕ → ℕ) (n m : ℕ) : Type 0 where
   pub heads : (a : ℕ) → a < m → getD (now (c .newest)) a 0 ≡ latest f a n
   pub links : (i : ℕ) → i < n → getD (now (c .before)) i 0 ≡ latest f (f i) i
 
+-- room for m accounts and b bookings, on both sides
+pub record Linkable (c : Chains) (m b : ℕ) : Type 0 where
+  pub heads-in : m ≤ length (now (c .incoming .newest))
+  pub links-in : b ≤ length (now (c .incoming .before))
+  pub heads-out : m ≤ length (now (c .outgoing .newest))
+  pub links-out : b ≤ length (now (c .outgoing .before))
+
 -- room, and the empty chains of the first two accounts
-pub record New-chains (c : Chains) (m b : ℕ) : Type 0 where
-  pub room : Linkable c m b
+pub record New-chain (c : Chain) (m b : ℕ) : Type 0 where
+  pub heads-room : m ≤ length (now (c .newest))
+  pub links-room : b ≤ length (now (c .before))
   pub heads : (a : ℕ) → a < 2 → getD (now (c .newest)) a 0 ≡ 0
 
+pub record New-chains (c : Chains) (m b : ℕ) : Type 0 where
+  pub incoming : New-chain (c .incoming) m b
+  pub outgoing : New-chain (c .outgoing) m b
+
 -- the empty chain of account a
-pub record Begun (c d : Chains) (a : ℕ) : Type 0 where
+pub record Begun (c d : Chain) (a : ℕ) : Type 0 where
   pub newest : now (d .newest) ≡ set (now (c .newest)) a 0
   pub before : now (d .before) ≡ now (c .before)
 
+pub record Begun-both (c d : Chains) (a : ℕ) : Type 0 where
+  pub incoming : Begun (c .incoming) (d .incoming) a
+  pub outgoing : Begun (c .outgoing) (d .outgoing) a
+
 -- booking n put at the head of the chain of account a
-pub record Linked (c d : Chains) (a n : ℕ) : Type 0 where
+pub record Linked (c d : Chain) (a n : ℕ) : Type 0 where
   pub newest : now (d .newest) ≡ set (now (c .newest)) a (n + 1)
   pub before : now (d .before) ≡ set (now (c .before)) n (getD (now (c .newest)) a 0)
+
+-- booking n, which is b, put at the head of its two chains
+pub record Linked-both (c d : Chains) (b : Booking) (n : ℕ) : Type 0 where
+  pub incoming : Linked (c .incoming) (d .incoming) (b .to) n
+  pub outgoing : Linked (c .outgoing) (d .outgoing) (b .from) n

@@ -1,5 +1,6 @@
 // Accounts in lent memory: limits, and running sums of the bookings that are not taken back.
 ghost use Prim.Native.Nat.{ℕ, _+_, _*_, _<_, _≤_, _^_};
+ghost use lib.Dec.{leb};
 ghost use lib.ListN.{length, getD};
 ghost use mathlib.Core.Path.{_≡_};
 ghost use Rattle.columns.specs.Cells.{cells, Roomy, New-accounts, Account-added, Credited, Debited};
@@ -16,6 +17,17 @@ pub struct Account {
     pub came: u64,
     pub left: u64,
     pub ordered: u64,
+}
+
+impl Account {
+    // Can so much more leave it?
+    pub fn covers(self, amount: u64) -> bool
+        requires left { ⌜ self .left + amount < 2 ^ 64 ⌝ }
+        requires came { ⌜ self .came + self .limit < 2 ^ 64 ⌝ }
+        ensures { λ r. ⌜ r ≡ leb (self .left + amount) (self .came + self .limit) ⌝ }
+    {
+        self.left + amount <= self.came + self.limit
+    }
 }
 
 // All accounts, by number.

@@ -1,5 +1,5 @@
 // Bookings in lent memory: a column for each field, booking i in cell i of each.
-ghost use Prim.Native.Nat.{ℕ, _+_, _*_, _<_, _≤_, _^_};
+ghost use Prim.Native.Nat.{_+_, _*_, _<_, _≤_, _^_};
 ghost use lib.ListN.{length};
 ghost use mathlib.Core.Path.{_≡_};
 ghost use Rattle.columns.specs.Rows.{row, Sound, New-bookings, Appended, Marked};

@@ -1,5 +1,5 @@
 // Scratch cells for a month's end, one of each kind for every account.
-ghost use Prim.Native.Nat.{ℕ, _*_, _≤_};
+ghost use Prim.Native.Nat.{_*_, _≤_};
 ghost use lib.ListN.{length};
 ghost use Rattle.columns.specs.Spare.{Spare};
 

@@ -1,5 +1,6 @@
 -- What is found of a block that is read next, by the tests in their order.
 use mathlib.Core.Path.{_≡_, refl, sym, ap, _∙_}
+use mathlib.Core.Logic.{_⊎_, inl, inr}
 use mathlib.Core.Bool.{Bool, true, false, not, _&&_, _||_}
 use mathlib.Core.List.{List}
 use Prim.Native.Nat.{ℕ, zero, suc, _+_, _*_, _≤_, _<_}
@@ -11,8 +12,9 @@ use Rattle.std.specs.declared.option.Option.{Option}
 use Rattle.std.specs.declared.option.Option.the-variants.{Some, None}
 use Rattle.std.proofs.shelf.Ways.{tells}
 use borrow.Author.Tests.{eqb-true, eq-eqb, ne-eqb, lt-ltb, le-leb, ltb-true}
-use Rattle.std.proofs.shelf.Tests.{and-parts, leb-true}
+use Rattle.std.proofs.shelf.Tests.{and-parts, leb-true, cases-eq, cases-lt}
 use Rattle.journal.specs.declared.journal.Journal.{Journal}
+use Rattle.journal.specs.Headers.{rows-found}
 use Rattle.journal.specs.Tail.{bounds}
 use Rattle.std.proofs.shelf.Lists.{drop-drop}
 use Rattle.device.specs.Device.{pick}
@@ -73,14 +75,14 @@ module _ (f : ℕ) (l : Limits) (e blocks k count : ℕ) (bs : List ℕ) (there 
     owned = rw mine (or-yes (eqb (head-in bs .format) 0))
 
     -- one with no rows
-    pub rowless : head-in bs .rows ≡ 0 → Some 0 ≡ found
+    rowless : head-in bs .rows ≡ 0 → Some 0 ≡ found
     rowless q =
         let r : rows-of f l e bs ≡ 0 = rw (mine, q) (pick-none (eqb (head-in bs .epoch) e)) in
         let z : later f l e bs ≡ false = rw (mine, q) in
         rw (here, long, owned, z, r)
 
     -- one of an earlier epoch
-    pub stale : head-in bs .epoch < e → Some 0 ≡ found
+    stale : head-in bs .epoch < e → Some 0 ≡ found
     stale q =
         let t : eqb (head-in bs .epoch) e ≡ false = ne-eqb (head-in bs .epoch) e (λ w. omega arith) in
         let r : rows-of f l e bs ≡ 0 = rw (mine, t) in
@@ -89,7 +91,7 @@ module _ (f : ℕ) (l : Limits) (e blocks k count : ℕ) (bs : List ℕ) (there 
         rw (here, long, owned, z, r)
 
     -- rows of a later one
-    pub future : (head-in bs .rows ≡ 0 → ⊥) → e < head-in bs .epoch → None ≡ found
+    future : (head-in bs .rows ≡ 0 → ⊥) → e < head-in bs .epoch → None ≡ found
     future p q =
         let s : ltb 0 (head-in bs .rows) ≡ true = lt-ltb 0 (head-in bs .rows) (omega (arith, p)) in
         let u : ltb e (head-in bs .epoch) ≡ true = lt-ltb e (head-in bs .epoch) q in
@@ -106,24 +108,62 @@ module _ (f : ℕ) (l : Limits) (e blocks k count : ℕ) (bs : List ℕ) (there 
           rw (mine, u) (and-no (ltb 0 (head-in bs .rows)))
 
       -- too many rows
-      pub many : 24 < head-in bs .rows → None ≡ found
+      many : 24 < head-in bs .rows → None ≡ found
       many q =
           let t : leb (head-in bs .rows) 24 ≡ false = not-most (head-in bs .rows) 24 q in
           rw (here, long, owned, not-later, count-is, t)
 
       -- rows behind a block that is not full
-      pub gap : (head-in bs .rows ≡ 0 → ⊥) → (count ≡ 24 * k → ⊥) → None ≡ found
+      gap : (head-in bs .rows ≡ 0 → ⊥) → (count ≡ 24 * k → ⊥) → None ≡ found
       gap p q =
           let t : eqb (head-in bs .rows) 0 ≡ false = ne-eqb (head-in bs .rows) 0 p in
           let u : eqb count (24 * k) ≡ false = ne-eqb count (24 * k) q in
           rw (here, long, owned, not-later, count-is, t, u) (ap (λ s. pick s (Some (head-in bs .rows)) None) (sym (and-no (leb (head-in bs .rows) 24))))
 
       -- rows
-      pub next-found : head-in bs .rows ≤ 24 → count ≡ 24 * k → Some (head-in bs .rows) ≡ found
+      next-found : head-in bs .rows ≤ 24 → count ≡ 24 * k → Some (head-in bs .rows) ≡ found
       next-found p q =
           let t : leb (head-in bs .rows) 24 ≡ true = le-leb (head-in bs .rows) 24 p in
           let u : eqb count (24 * k) ≡ true = eq-eqb count (24 * k) q in
           rw (here, long, owned, not-later, count-is, t, u) (ap (λ s. pick s (Some (head-in bs .rows)) None) (sym (or-yes (eqb (head-in bs .rows) 0))))
+
+    -- by the header of this book
+    pub found-rows : rows-found (head-in bs) e (eqb count (24 * k)) ≡ found
+    found-rows = by-rows (cases-eq (head-in bs .rows) 0) (cases-lt (head-in bs .epoch) e)
+      where
+        by-join : (head-in bs .rows ≡ 0 → ⊥) → head-in bs .epoch ≡ e → eqb (head-in bs .rows) 0 ≡ false → ltb (head-in bs .epoch) e ≡ false → leb (head-in bs .epoch) e ≡ true →
+            (count ≡ 24 * k) ⊎ (count ≡ 24 * k → ⊥) → (head-in bs .rows ≤ 24) ⊎ (24 < head-in bs .rows) → rows-found (head-in bs) e (eqb count (24 * k)) ≡ found
+        by-join z t x y w (inl q) (inl r) =
+            let u : eqb count (24 * k) ≡ true = eq-eqb count (24 * k) q in
+            let v : leb (head-in bs .rows) 24 ≡ true = le-leb (head-in bs .rows) 24 r in
+            let n : rows-found (head-in bs) e (eqb count (24 * k)) ≡ Some (head-in bs .rows) = rw (x, y, w, u, v) in
+            n ∙ next-found t r q
+        by-join z t x y w (inr q) (inl r) =
+            let u : eqb count (24 * k) ≡ false = ne-eqb count (24 * k) q in
+            let n : rows-found (head-in bs) e (eqb count (24 * k)) ≡ None = rw (x, y, w, u, and-no (leb (head-in bs .rows) 24)) in
+            n ∙ gap t z q
+        by-join z t x y w j (inr r) =
+            let v : leb (head-in bs .rows) 24 ≡ false = not-most (head-in bs .rows) 24 r in
+            let n : rows-found (head-in bs) e (eqb count (24 * k)) ≡ None = rw (x, y, w, v) in
+            n ∙ many t r
+
+        by-rows : (head-in bs .rows ≡ 0) ⊎ (head-in bs .rows ≡ 0 → ⊥) → (head-in bs .epoch < e) ⊎ (e ≤ head-in bs .epoch) → rows-found (head-in bs) e (eqb count (24 * k)) ≡ found
+        by-rows (inl z) t = let x : eqb (head-in bs .rows) 0 ≡ true = eq-eqb (head-in bs .rows) 0 z in rw x (rowless z)
+        by-rows (inr z) (inl t) =
+            let x : eqb (head-in bs .rows) 0 ≡ false = ne-eqb (head-in bs .rows) 0 z in
+            let y : ltb (head-in bs .epoch) e ≡ true = lt-ltb (head-in bs .epoch) e t in
+            rw (x, y) (stale t)
+        by-rows (inr z) (inr t) =
+            let x : eqb (head-in bs .rows) 0 ≡ false = ne-eqb (head-in bs .rows) 0 z in
+            let y : ltb (head-in bs .epoch) e ≡ false = not-less (head-in bs .epoch) e t in
+            elim (cases-eq (head-in bs .epoch) e) [
+              | inl q ↦ by-join z q x y (le-leb (head-in bs .epoch) e (omega arith)) (cases-eq count (24 * k)) (at-most (cases-lt 24 (head-in bs .rows)))
+              | inr q ↦ let w : leb (head-in bs .epoch) e ≡ false = not-most (head-in bs .epoch) e (omega (arith, q)) in rw (x, y, w) (future z (omega (arith, q)))
+            ]
+          where
+            at-most : (24 < head-in bs .rows) ⊎ (head-in bs .rows ≤ 24) → (head-in bs .rows ≤ 24) ⊎ (24 < head-in bs .rows)
+            at-most (inl l) = inr l
+            at-most (inr l) = inl l
 
 -- row i of some
 pub row-in : {X : Type 0} (r : Row X) (n i : ℕ) (bs : List ℕ) (d : X) → i < n → getD (rows-at r n bs) i d ≡ thing-in r (drop (r .size * i) bs)

@@ -21,7 +21,7 @@ use Rattle.model.proofs.JournalBlock.{journal-block-back, journal-block-full, j
 use Rattle.bank.specs.Promise.{allowed}
 use Rattle.columns.specs.Sizes.{limits-of}
 use Rattle.journal.specs.declared.journal.Journal.{Journal}
-use Rattle.journal.specs.Tail.{bounds, block-with, tail, Sound, Alike, Roomy, Appended, Stands}
+use Rattle.journal.specs.Tail.{bounds, block-with, with-row, tail, Sound, Alike, Roomy, Appended, Stands}
 
 pub tail-none : (j : Journal) → j .count % 24 ≡ 0 → tail j ≡ []
 unfolding tail
@@ -92,11 +92,11 @@ goes-on j s h = record { alike = alike-self j; count = refl; whole = s .whole; b
 
 -- a row put into it
 pub row-put : (j : Journal) (c : Call) (n : ℕ) (bs : List ℕ) → Sound j → stored c ≡ true → n ≡ j .count % 24 → bs ≡ block-with j (tail j) →
-    with-bytes (with-bytes bs 2 (bytes-of 2 (n + 1))) (32 + 20 * n) (row-of call-row c) ≡ block-with j (tail j ++ (c ∷ []))
+    with-row bs n c ≡ block-with j (tail j ++ (c ∷ []))
 row-put j c n bs s h e p =
     let l : n ≡ length (tail j) = e ∙ sym (s .long) in
     let m : n + 1 ≡ suc (length (tail j)) = omega arith in
-    ap (λ b. with-bytes (with-bytes b 2 (bytes-of 2 (n + 1))) (32 + 20 * n) (row-of call-row c)) p
+    ap (λ b. with-row b n c) p
     ∙ ap (λ i. with-bytes (with-bytes (block-with j (tail j)) 2 (bytes-of 2 i)) (32 + 20 * n) (row-of call-row c)) m
     ∙ ap (λ i. with-bytes (with-bytes (block-with j (tail j)) 2 (bytes-of 2 (suc (length (tail j))))) (32 + 20 * i) (row-of call-row c)) l
     ∙ sym (journal-block-more (j .format) (s .narrow) (bounds j) (s .lawful) (j .epoch) (s .early) (tail j) c (omega (arith, s .long)) (s .rows) h)

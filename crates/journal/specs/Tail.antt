@@ -2,7 +2,7 @@
 use mathlib.Core.Path.{_≡_}
 use mathlib.Core.Bool.{true}
 use mathlib.Core.List.{List, [], _∷_, _++_}
-use Prim.Native.Nat.{ℕ, suc, _+_, _/_, _%_, _<_}
+use Prim.Native.Nat.{ℕ, suc, _+_, _*_, _/_, _%_, _<_}
 use lib.Dec.{eqb}
 use lib.ListN.{length, take}
 use denote.Ref.{now}
@@ -11,7 +11,8 @@ use Rattle.device.specs.Book.{every}
 use Rattle.device.specs.Journal.{chunk}
 use Rattle.bank.specs.Calls.{Call, Limits}
 use Rattle.bank.specs.Promise.{allowed}
-use Rattle.model.specs.JournalBlock.{stored, journal-block, calls-in}
+use Rattle.device.specs.Rows.{bytes-of, row-of, with-bytes}
+use Rattle.model.specs.JournalBlock.{call-row, stored, journal-block, calls-in}
 use Rattle.columns.specs.Sizes.{limits-of}
 use Rattle.journal.specs.declared.journal.Journal.{Journal}
 
@@ -22,6 +23,10 @@ bounds j = limits-of (j .limits)
 -- the block that has some calls
 abbrev pub block-with : Journal → List Call → List ℕ
 block-with j cs = journal-block (j .format) (bounds j) (j .epoch) cs
+
+-- a block with its count raised, and a row behind its first n
+abbrev pub with-row : List ℕ → ℕ → Call → List ℕ
+with-row bs n c = with-bytes (with-bytes bs 2 (bytes-of 2 (n + 1))) (32 + 20 * n) (row-of call-row c)
 
 -- the calls of the block that is written next; one that is full is left behind
 unfoldable pub tail : Journal → List Call

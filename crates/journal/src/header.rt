@@ -17,7 +17,7 @@ ghost use lib.ListN.{length, drop};
 ghost use Rattle.device.specs.Rows.{bytes-of, number-of, with-bytes};
 ghost use Rattle.model.specs.JournalBlock.{head-in, same-book, journal-block};
 ghost use Rattle.columns.specs.Sizes.{limits-of};
-ghost use Rattle.journal.specs.Headers.{head-of};
+ghost use Rattle.journal.specs.Headers.{head-of, rows-found};
 ghost use Rattle.journal.specs.Recovery.{Says};
 use blocks::BLOCK;
 use columns::limits::Limits;
@@ -38,6 +38,9 @@ const EPOCH_AT: usize = 8;
 const BOOKINGS_AT: usize = 12;
 
 const RATES_AT: usize = 16;
+
+// Rows in a block.
+pub(crate) const ROWS: u64 = 24;
 
 // What a header says.
 #[derive(Clone, Copy)]
@@ -93,6 +96,20 @@ impl Header {
             && self.rates as u32 == limits.rates
             && self.bookings == limits.bookings
     }
+
+    // How many rows its block has for a journal of this epoch, which a block can join or not; one of an earlier epoch counts as empty. None where it cannot be of the journal: it
+    // has rows of a later epoch, too many, or some behind a block that is not full.
+    pub(crate) fn rows_for(self, epoch: u32, joins: bool) -> Option<usize>
+        ensures { λ r. ⌜ r ≡ rows-found (head-of self) epoch joins ⌝ }
+    {
+        if self.rows == 0 || self.epoch < epoch {
+            return Some(0);
+        }
+        if self.epoch > epoch || self.rows as u64 > ROWS || !joins {
+            return None;
+        }
+        Some(self.rows as usize)
+    }
 }
 
 // The limits of the book that a block of this format is of.
@@ -113,7 +130,7 @@ pub fn limits_in(block: &[u8], format: u16) -> Option<Limits>
     })
 }
 
-// Makes a block of zeros one of a journal with no rows yet.
+// Begins a block of a journal: its header, with no rows yet, and zeros.
 pub(crate) fn write_header(block: &mut [u8], format: u16, limits: Limits, epoch: u32)
     requires { ⌜ length (now block) ≡ 512 ⌝ }
     ensures { λ _. ⌜ now (block .exit) ≡ journal-block format (limits-of limits) epoch [] ⌝ }

@@ -12,8 +12,9 @@ ghost use Rattle.bank.specs.Promise.{allowed};
 ghost use Rattle.model.specs.JournalBlock.{stored};
 ghost use Rattle.columns.specs.Sizes.{limits-of};
 ghost use Rattle.wire.specs.Meaning.{meant};
-ghost use Rattle.journal.specs.Tail.{Sound, Roomy, Appended, Stands};
+ghost use Rattle.journal.specs.Tail.{with-row, Sound, Roomy, Appended, Stands};
 ghost use Rattle.journal.specs.Recovery.{accepts-next, next-rows, Took, Row-of};
+use crate::header::ROWS;
 use crate::header::read_header;
 use crate::header::write_header;
 use crate::header::write_rows;
@@ -23,14 +24,24 @@ use wire::call::Call;
 use wire::row::read_row;
 use wire::row::write_row;
 
-// Bytes of a header and of a row, and rows in a block.
+// Bytes of a header and of a row.
 const HEADER: usize = 32;
 
 const ROW: usize = 20;
 
-const ROWS: u64 = 24;
+// Puts a row behind the first n of a block.
+fn put_row(block: &mut [u8], n: u64, call: Call)
+    requires whole { ⌜ length (now block) ≡ 512 ⌝ }
+    requires room { ⌜ n < 24 ⌝ }
+    requires kept { ⌜ stored (meant call) ≡ true ⌝ }
+    ensures { λ _. ⌜ now (block .exit) ≡ with-row (now (block .entry)) n (meant call) ⌝ }
+{
+    write_rows(block, n + 1);
+    write_row(block, HEADER + ROW * n as usize, call);
+}
 
-// The journal of a book, whose block is lent.
+// The journal of a book: the lent block that is written next; what each of its blocks says of the book; how many blocks there are, and how many of them recovery has read; and how many
+// calls it has.
 #[derive(Drop)]
 pub struct Journal<'a> {
     block: &'a mut [u8],
@@ -99,8 +110,7 @@ impl Journal<'_> {
         self.make_room();
         let n = self.count % ROWS;
         let k = self.count / ROWS;
-        write_rows(self.block, n + 1);
-        write_row(self.block, HEADER + ROW * n as usize, call);
+        put_row(self.block, n, call);
         self.count += 1;
         k
     }
@@ -140,22 +150,8 @@ impl Journal<'_> {
         if !header.is_of(self.format, self.limits) {
             return None;
         }
-        if header.rows == 0 {
-            return Some(0);
-        }
-        if header.epoch < self.epoch {
-            return Some(0);
-        }
-        if header.epoch > self.epoch {
-            return None;
-        }
-        if header.rows as u64 > ROWS {
-            return None;
-        }
-        if self.count != ROWS * self.read as u64 {
-            return None;
-        }
-        Some(header.rows as usize)
+        let joins = self.count == ROWS * self.read as u64;
+        header.rows_for(self.epoch, joins)
     }
 
     // Takes the block that was asked for, and says how many rows it has; none where it cannot be a block of this journal.

@@ -1,12 +1,12 @@
 -- Laws of the bank that a ledger holds: how many accounts, rates and bookings it has, and what lies at a number.
 use mathlib.Core.Path.{_≡_, refl, sym, ap, _∙_}
-use mathlib.Core.List.{List, [], _∷_, _++_}
-use Prim.Native.Nat.{ℕ, zero, suc, _+_, _≤_, _<_}
+use mathlib.Core.List.{List, [], _∷_}
+use Prim.Native.Nat.{ℕ, zero, suc, _<_}
 use native.Mathlib.Omega.{arith}
 use native.Mathlib.Numerals.{add-one}
-use lib.ListN.{length, getD, set, length-append}
+use lib.ListN.{length, getD, length-append}
 use denote.Ref.{now}
-use Rattle.bank.specs.Book.{Rate, Account, Booking, Bank}
+use Rattle.bank.specs.Book.{Account}
 use Rattle.bank.specs.Builders.{no-account, booking-at}
 use Rattle.bank.specs.Calls.{limit-of, none-there, rates-in}
 use Rattle.model.specs.Register.{Dated}

@@ -1,38 +1,36 @@
 -- What each effect leaves of a ledger.
 use mathlib.Core.Path.{_≡_, refl, sym, ap, _∙_, subst}
-use mathlib.Core.Logic.{_≢_, _⊎_, inl, inr}
-use mathlib.Core.Bool.{Bool, true, false}
+use mathlib.Core.Logic.{inl, inr}
+use mathlib.Core.Bool.{true, false}
 use mathlib.Core.List.{List, [], _∷_, _++_, append-nil}
 use Prim.Native.Nat.{ℕ, zero, suc, _+_, _-_, _≤_, _<_}
 use native.Mathlib.Omega.{arith}
-use native.Mathlib.Nat.{zero-add}
 use native.Mathlib.Numerals.{add-one}
 use lib.Dec.{eqb}
 use lib.ListN.{length, getD, set}
 use denote.Ref.{now}
 use Rattle.std.proofs.shelf.Tests.{cases-eq, ne-eqb}
-use Rattle.bank.specs.Book.{pick, Rate, Account, Booking, Bank}
-use Rattle.bank.specs.Builders.{no-account, new-account, booking-at, with-today, counted}
+use Rattle.bank.specs.Book.{pick, Booking}
+use Rattle.bank.specs.Builders.{no-account, new-account, with-today, counted}
 use Rattle.bank.specs.Calls.{marked, none-there}
 use Rattle.bank.specs.Effects.{books, marks, adds, rates, turns, made}
 use Rattle.model.specs.Register.{Dated}
-use Rattle.model.specs.Snapshot.{rates-of, accounts-of}
+use Rattle.model.specs.Snapshot.{rates-of}
 use Rattle.model.proofs.Register.{same-rates, no-rates, accounts-skip, accounts-put, accounts-snoc}
-use Rattle.columns.specs.Cells.{limits-in, Roomy, Sums, Account-added, Credited, Debited}
-use Rattle.columns.specs.Firsts.{first-of}
-use Rattle.columns.specs.Links.{Linkable, Chained, Begun, Linked}
+use Rattle.columns.specs.Cells.{limits-in, Account-added, Credited, Debited}
+use Rattle.columns.specs.Links.{Begun-both, Linked-both}
 use Rattle.columns.specs.RateRows.{rate-row, rate-rows, Rated, Rate-added}
-use Rattle.columns.specs.Rows.{row, rows, Sound, Appended, Marked}
+use Rattle.columns.specs.Rows.{row, rows, Appended, Marked}
 use Rattle.columns.specs.Spare.{Spare}
 use Rattle.columns.proofs.Chain.{chained-same, linkable-linked, chained-push, linkable-begun, chained-begun}
 use Rattle.columns.proofs.First.{length-first, getD-first, each-first}
 use Rattle.columns.proofs.Put.{appended-row, appended-last, marked-here, marked-other, marked-keeps}
-use Rattle.columns.proofs.Running.{sums-push, sums-drop, roomy-credited, roomy-debited, roomy-added, sums-added, limits-added, limits-same}
+use Rattle.columns.proofs.Running.{sums-push, sums-drop, roomy-summed, roomy-added, sums-added, limits-added, limits-same}
 use Rattle.columns.specs.declared.rates.Rates.{Rates}
-use Rattle.ledger.specs.Meaning.{bank, rates-set, limits, backs, most-done, with-done, bare-account}
+use Rattle.ledger.specs.Meaning.{bank, rates-set, backs, most-done, with-done, bare-account}
 use Rattle.ledger.specs.Whole.{Fit, Whole, Made, Becomes}
 use Rattle.ledger.specs.declared.Ledger.{Ledger}
-use Rattle.ledger.proofs.Bank.{accounts-length, bank-accounts, bank-count, bank-row, bank-today}
+use Rattle.ledger.proofs.Bank.{accounts-length, bank-accounts, bank-count, bank-today}
 use Rattle.ledger.proofs.Live.{none-to, none-from, none-ordered}
 
 -- how many were taken back, after one more booking and after one is taken back
@@ -66,8 +64,7 @@ fit-here g b f = fit-more (bank g .today) (length (bank g .accounts)) (g .today)
 
 -- one more booking
 module _ (g h : Ledger) (b : Booking) (w : Whole g) (f : Fit (g .today) (g .accounts .count) b) (v : g .bookings .count < g .bookings .capacity) (t : h .today ≡ g .today) (d : h .done ≡ g .done)
-    (k : Credited (g .accounts) (h .accounts) b) (p : Appended (g .bookings) (h .bookings) b) (l : Linked (g .incoming) (h .incoming) (b .to) (g .bookings .count))
-    (o : Linked (g .outgoing) (h .outgoing) (b .from) (g .bookings .count)) (q : h .rates ≡ g .rates) (s : h .scratch ≡ g .scratch) where
+    (k : Credited (g .accounts) (h .accounts) b) (p : Appended (g .bookings) (h .bookings) b) (l : Linked-both (g .chains) (h .chains) b (g .bookings .count)) (q : h .rates ≡ g .rates) (s : h .scratch ≡ g .scratch) where
   booked-bank : bank h ≡ made (bank g) (books b)
   unfolding bank made
   booked-bank = let a = limits-same (g .accounts) (h .accounts) (k .limit) (k .count) in let r = p .rows in cc
@@ -85,7 +82,7 @@ module _ (g h : Ledger) (b : Booking) (w : Whole g) (f : Fit (g .today) (g .acco
 
   booked-whole : Whole h
   booked-whole = record {
-    accounts = roomy-credited (g .accounts) (h .accounts) b (w .accounts) k;
+    accounts = roomy-summed (g .accounts) (h .accounts) _ _ _ _ _ (w .accounts) k;
     rates = rw (q, k .count) (w .rates);
     bookings = p .sound;
     scratch = rw (s, k .capacity) (w .scratch);
@@ -93,15 +90,14 @@ module _ (g h : Ledger) (b : Booking) (w : Whole g) (f : Fit (g .today) (g .acco
     fit = booked-fit;
     today = rw t (w .today);
     done = omega (arith, w .done, booked-most, d);
-    to-room = rw (k .capacity, p .capacity) (linkable-linked (g .incoming) (h .incoming) _ _ _ _ (w .to-room) l);
-    from-room = rw (k .capacity, p .capacity) (linkable-linked (g .outgoing) (h .outgoing) _ _ _ _ (w .from-room) o);
+    chains = rw (k .capacity, p .capacity) (linkable-linked (g .chains) (h .chains) b (g .bookings .count) _ _ (w .chains) l);
     incoming = rw (p .count, k .count)
-        (chained-push (g .incoming) (h .incoming) (λ i. row (g .bookings) i .to) (λ i. row (h .bookings) i .to) (b .to) (g .bookings .count) (g .accounts .count)
-        (omega (arith, w .to-room .accounts, w .accounts .count)) (omega (arith, w .to-room .bookings)) (w .incoming) l (f .to)
+        (chained-push (g .chains .incoming) (h .chains .incoming) (λ i. row (g .bookings) i .to) (λ i. row (h .bookings) i .to) (b .to) (g .bookings .count) (g .accounts .count)
+        (omega (arith, w .chains .heads-in, w .accounts .count)) (omega (arith, w .chains .links-in)) (w .incoming) (l .incoming) (f .to)
         (λ i u. ap (λ x. x .to) (appended-row (g .bookings) (h .bookings) b i p u)) (ap (λ x. x .to) (appended-last (g .bookings) (h .bookings) b p)));
     outgoing = rw (p .count, k .count)
-        (chained-push (g .outgoing) (h .outgoing) (λ i. row (g .bookings) i .from) (λ i. row (h .bookings) i .from) (b .from) (g .bookings .count) (g .accounts .count)
-        (omega (arith, w .from-room .accounts, w .accounts .count)) (omega (arith, w .from-room .bookings)) (w .outgoing) o (f .from)
+        (chained-push (g .chains .outgoing) (h .chains .outgoing) (λ i. row (g .bookings) i .from) (λ i. row (h .bookings) i .from) (b .from) (g .bookings .count) (g .accounts .count)
+        (omega (arith, w .chains .heads-out, w .accounts .count)) (omega (arith, w .chains .links-out)) (w .outgoing) (l .outgoing) (f .from)
         (λ i u. ap (λ x. x .from) (appended-row (g .bookings) (h .bookings) b i p u)) (ap (λ x. x .from) (appended-last (g .bookings) (h .bookings) b p)));
   }
 
@@ -128,7 +124,7 @@ module _ (g : Ledger) (i : ℕ) (b : Booking) where
 
 -- booking i marked as taken back today
 module _ (g h : Ledger) (i : ℕ) (b : Booking) (w : Whole g) (u : i < g .bookings .count) (e : b ≡ row (g .bookings) i) (z : b .back ≡ 0) (t : h .today ≡ g .today) (d : h .done ≡ g .done)
-    (k : Debited (g .accounts) (h .accounts) b) (p : Marked (g .bookings) (h .bookings) i (g .today)) (x : h .incoming ≡ g .incoming) (o : h .outgoing ≡ g .outgoing)
+    (k : Debited (g .accounts) (h .accounts) b) (p : Marked (g .bookings) (h .bookings) i (g .today)) (x : h .chains ≡ g .chains)
     (q : h .rates ≡ g .rates) (s : h .scratch ≡ g .scratch) where
   marked-bank : bank h ≡ made (bank g) (marks i)
   unfolding bank made
@@ -151,7 +147,7 @@ module _ (g h : Ledger) (i : ℕ) (b : Booking) (w : Whole g) (u : i < g .bookin
 
   marked-whole : Whole h
   marked-whole = record {
-    accounts = roomy-debited (g .accounts) (h .accounts) b (w .accounts) k;
+    accounts = roomy-summed (g .accounts) (h .accounts) _ _ _ _ _ (w .accounts) k;
     rates = rw (q, k .count) (w .rates);
     bookings = p .sound;
     scratch = rw (s, k .capacity) (w .scratch);
@@ -160,11 +156,10 @@ module _ (g h : Ledger) (i : ℕ) (b : Booking) (w : Whole g) (u : i < g .bookin
     fit = marked-fit;
     today = rw t (w .today);
     done = omega (arith, w .done, marked-most, d);
-    to-room = rw (x, k .capacity, p .capacity) (w .to-room);
-    from-room = rw (o, k .capacity, p .capacity) (w .from-room);
-    incoming = rw (x, p .count, k .count) (chained-same (g .incoming) (λ j. row (g .bookings) j .to) (λ j. row (h .bookings) j .to) (g .bookings .count) (g .accounts .count) (w .incoming)
+    chains = rw (x, k .capacity, p .capacity) (w .chains);
+    incoming = rw (x, p .count, k .count) (chained-same (g .chains .incoming) (λ j. row (g .bookings) j .to) (λ j. row (h .bookings) j .to) (g .bookings .count) (g .accounts .count) (w .incoming)
         (λ j v. marked-keeps (λ c. c .to) (λ m c. refl) (g .bookings) (h .bookings) i (g .today) j p u v));
-    outgoing = rw (o, p .count, k .count) (chained-same (g .outgoing) (λ j. row (g .bookings) j .from) (λ j. row (h .bookings) j .from) (g .bookings .count) (g .accounts .count) (w .outgoing)
+    outgoing = rw (x, p .count, k .count) (chained-same (g .chains .outgoing) (λ j. row (g .bookings) j .from) (λ j. row (h .bookings) j .from) (g .bookings .count) (g .accounts .count) (w .outgoing)
         (λ j v. marked-keeps (λ c. c .from) (λ m c. refl) (g .bookings) (h .bookings) i (g .today) j p u v));
   }
 
@@ -178,31 +173,38 @@ module _ (g h : Ledger) (i : ℕ) (b : Booking) (w : Whole g) (u : i < g .bookin
     unit = omega (arith, w .done, marked-most, d);
   }
 
+-- what is not accounts, bookings or chains may be another: a later day, other rates, another count of calls, other scratch
+module _ (g h : Ledger) (w : Whole g) (a : h .accounts ≡ g .accounts) (b : h .bookings ≡ g .bookings) (i : h .chains ≡ g .chains) where
+  like-most : most-done h ≡ 4294967296 + h .rates .count + g .bookings .count + backs (rows (g .bookings)) + h .today
+  like-most = omega (arith, ap (λ y. y .count) b, ap (λ y. backs (rows y)) b)
+
+  whole-like : Rated (h .rates) (g .accounts .count) → Spare (h .scratch) (g .accounts .capacity) → g .today ≤ h .today → h .today ≤ 3650 → h .done ≤ most-done h → Whole h
+  whole-like r s t u d = record {
+    accounts = rw a (w .accounts);
+    rates = rw a r;
+    bookings = rw b (w .bookings);
+    scratch = rw a s;
+    sums = rw (a, b) (w .sums);
+    fit = rw (a, b) (λ j v. fit-more (g .today) (g .accounts .count) (h .today) (g .accounts .count) (row (g .bookings) j) t (omega arith) (w .fit j v));
+    today = u;
+    done = d;
+    chains = rw (i, a, b) (w .chains);
+    incoming = rw (i, b, a) (w .incoming);
+    outgoing = rw (i, b, a) (w .outgoing);
+  }
+
 -- a later day
 module _ (g h : Ledger) (w : Whole g) (u : h .today ≤ 3650) (t : g .today ≤ h .today) (d : h .done ≡ g .done) (a : h .accounts ≡ g .accounts) (r : h .rates ≡ g .rates) (b : h .bookings ≡ g .bookings)
-    (i : h .incoming ≡ g .incoming) (o : h .outgoing ≡ g .outgoing) (s : h .scratch ≡ g .scratch) where
+    (i : h .chains ≡ g .chains) (s : h .scratch ≡ g .scratch) where
   later-most : most-done h ≡ most-done g + (h .today - g .today)
-  later-most = omega (arith, t, ap (λ y. y .count) r, ap (λ y. y .count) b, ap (λ y. backs (rows y)) b)
+  later-most = omega (arith, t, like-most g h w a b i, ap (λ y. y .count) r)
 
   pub later : Becomes g h (with-today (bank g) (h .today))
   unfolding bank rates-set
   later = record {
     bank-is = cc;
     rates-are = ap rate-rows r;
-    whole = record {
-      accounts = rw a (w .accounts);
-      rates = rw (r, a) (w .rates);
-      bookings = rw b (w .bookings);
-      scratch = rw (s, a) (w .scratch);
-      sums = rw (a, b) (w .sums);
-      fit = rw (a, b) (λ j v. fit-more (g .today) (g .accounts .count) (h .today) (g .accounts .count) (row (g .bookings) j) t (omega arith) (w .fit j v));
-      today = u;
-      done = omega (arith, w .done, later-most, d);
-      to-room = rw (i, a, b) (w .to-room);
-      from-room = rw (o, a, b) (w .from-room);
-      incoming = rw (i, b, a) (w .incoming);
-      outgoing = rw (o, b, a) (w .outgoing);
-    };
+    whole = whole-like g h w a b i (rw r (w .rates)) (rw s (w .scratch)) t u (omega (arith, w .done, later-most, d));
     limits-stay = cc;
   }
 
@@ -218,44 +220,38 @@ module _ (g h : Ledger) (w : Whole g) (u : h .today ≤ 3650) (t : g .today ≤ 
   }
 
 -- another number of calls is counted
-module _ (g h : Ledger) (k : ℕ) (w : Whole g) (u : k ≤ most-done g) (t : h .today ≡ g .today) (d : h .done ≡ k) (a : h .accounts ≡ g .accounts) (r : h .rates ≡ g .rates) (b : h .bookings ≡ g .bookings)
-    (i : h .incoming ≡ g .incoming) (o : h .outgoing ≡ g .outgoing) (s : h .scratch ≡ g .scratch) where
-  done-most : most-done h ≡ most-done g
-  done-most = omega (arith, t, ap (λ y. y .count) r, ap (λ y. y .count) b, ap (λ y. backs (rows y)) b)
-
-  pub done-set : Becomes g h (with-done (bank g) k)
-  unfolding bank rates-set
-  done-set = record {
-    bank-is = cc;
-    rates-are = ap rate-rows r;
-    whole = record {
-      accounts = rw a (w .accounts);
-      rates = rw (r, a) (w .rates);
-      bookings = rw b (w .bookings);
-      scratch = rw (s, a) (w .scratch);
-      sums = rw (a, b) (w .sums);
-      fit = rw (a, b, t) (w .fit);
-      today = rw t (w .today);
-      done = omega (arith, u, done-most, d);
-      to-room = rw (i, a, b) (w .to-room);
-      from-room = rw (o, a, b) (w .from-room);
-      incoming = rw (i, b, a) (w .incoming);
-      outgoing = rw (o, b, a) (w .outgoing);
-    };
-    limits-stay = cc;
-  }
+pub done-set : (g h : Ledger) (k : ℕ) → Whole g → k ≤ most-done g → h .today ≡ g .today → h .done ≡ k → h .accounts ≡ g .accounts → h .rates ≡ g .rates → h .bookings ≡ g .bookings → h .chains ≡ g .chains →
+    h .scratch ≡ g .scratch → Becomes g h (with-done (bank g) k)
+unfolding bank rates-set
+done-set g h k w u t d a r b i s = record {
+  bank-is = cc;
+  rates-are = ap rate-rows r;
+  whole = whole-like g h w a b i (rw r (w .rates)) (rw s (w .scratch)) (omega (arith, t)) (omega (arith, t, w .today)) (omega (arith, u, t, like-most g h w a b i, ap (λ y. y .count) r, d));
+  limits-stay = cc;
+}
 
 -- a call is counted
-pub called : (g h : Ledger) → g .done < most-done g → Becomes g h (with-done (bank g) (g .done + 1)) → Becomes g h (counted (bank g))
+pub called : (g h : Ledger) → Becomes g h (with-done (bank g) (g .done + 1)) → Becomes g h (counted (bank g))
 unfolding bank
-called g h u e = subst (λ (k : ℕ). Becomes g h (with-done (bank g) k)) (add-one (g .done)) e
+called g h e = subst (λ (k : ℕ). Becomes g h (with-done (bank g) k)) (add-one (g .done)) e
+
+-- scratch cells mean nothing: whoever writes them leaves the book as it was
+pub scratch-free : (g h : Ledger) → Whole g → Spare (h .scratch) (g .accounts .capacity) → h .today ≡ g .today → h .done ≡ g .done → h .accounts ≡ g .accounts → h .rates ≡ g .rates → h .bookings ≡ g .bookings →
+    h .chains ≡ g .chains → Becomes g h (bank g)
+unfolding bank rates-set
+scratch-free g h w x t d a r b i = record {
+  bank-is = cc;
+  rates-are = ap rate-rows r;
+  whole = whole-like g h w a b i (rw r (w .rates)) x (omega (arith, t)) (omega (arith, t, w .today)) (omega (arith, w .done, t, like-most g h w a b i, ap (λ y. y .count) r, d));
+  limits-stay = cc;
+}
 
 rated-more : (r : Rates) (m n : ℕ) → m ≤ n → Rated r m → Rated r n
 rated-more r m n h o = record { count = o .count; capacity = o .capacity; account = o .account; since = o .since; rate = o .rate; owners = λ i u. omega (arith, o .owners i u) }
 
 -- one more rate of an account that is there
 module _ (g h : Ledger) (x : Dated) (w : Whole g) (u : x .account < g .accounts .count) (t : h .today ≡ g .today) (d : h .done ≡ g .done) (a : h .accounts ≡ g .accounts) (b : h .bookings ≡ g .bookings)
-    (i : h .incoming ≡ g .incoming) (o : h .outgoing ≡ g .outgoing) (s : h .scratch ≡ g .scratch) (f : Rate-added (g .rates) (h .rates) x) where
+    (i : h .chains ≡ g .chains) (s : h .scratch ≡ g .scratch) (f : Rate-added (g .rates) (h .rates) x) where
   rated-bank : bank h ≡ made (bank g) (rates (x .account) (record { since = x .since; rate = x .rate }))
   unfolding bank made
   rated-bank =
@@ -265,160 +261,110 @@ module _ (g h : Ledger) (x : Dated) (w : Whole g) (u : x .account < g .accounts 
       cc
 
   rated-most : most-done h ≡ suc (most-done g)
-  rated-most = omega (arith, t, f .count, ap (λ y. y .count) b, ap (λ y. backs (rows y)) b)
+  rated-most = omega (arith, t, f .count, like-most g h w a b i)
 
   pub made-rated : Made g h (rates (x .account) (record { since = x .since; rate = x .rate }))
   unfolding rates-set
   made-rated = record {
     bank-is = rated-bank;
     rates-are = f .rows;
-    whole = record {
-      accounts = rw a (w .accounts);
-      rates = rw a (f .rated (g .accounts .count) (w .rates) u);
-      bookings = rw b (w .bookings);
-      scratch = rw (s, a) (w .scratch);
-      sums = rw (a, b) (w .sums);
-      fit = rw (a, b, t) (w .fit);
-      today = rw t (w .today);
-      done = omega (arith, w .done, rated-most, d);
-      to-room = rw (i, a, b) (w .to-room);
-      from-room = rw (o, a, b) (w .from-room);
-      incoming = rw (i, b, a) (w .incoming);
-      outgoing = rw (o, b, a) (w .outgoing);
-    };
+    whole = whole-like g h w a b i (f .rated (g .accounts .count) (w .rates) u) (rw s (w .scratch)) (omega (arith, t)) (omega (arith, t, w .today)) (omega (arith, w .done, rated-most, d));
     limits-stay = let c = f .capacity in cc;
     unit = omega (arith, w .done, rated-most, d);
   }
 
--- one more account, with a rate
-module _ (g h : Ledger) (l since r : ℕ) (w : Whole g) (small : l ≤ 100000000000) (u : g .accounts .count < g .accounts .capacity) (t : h .today ≡ g .today) (d : h .done ≡ g .done)
-    (b : h .bookings ≡ g .bookings) (s : h .scratch ≡ g .scratch) (e : Account-added (g .accounts) (h .accounts) l)
-    (f : Rate-added (g .rates) (h .rates) (record { account = g .accounts .count; since = since; rate = r }))
-    (i : Begun (g .incoming) (h .incoming) (g .accounts .count)) (o : Begun (g .outgoing) (h .outgoing) (g .accounts .count)) where
-  added-bank : bank h ≡ made (bank g) (adds (new-account since l r))
-  unfolding bank made
-  added-bank =
-      let n : ℕ = g .accounts .count in
-      let x : Dated = record { account = n; since = since; rate = r } in
-      let ms : List ℕ = limits-in (g .accounts) in
-      let rs : List Dated = rate-rows (g .rates) in
-      let len : length ms ≡ n = length-first (λ c. getD (now (g .accounts .limit)) c 0) n in
-      let e1 = limits-added (g .accounts) (h .accounts) l (w .accounts) u e in
-      let e2 = f .rows in
-      let e3 = accounts-snoc 0 ms l (rs ++ (x ∷ [])) n (omega (arith, len)) in
-      let e4 = accounts-skip 0 ms rs x (λ k p q z. omega (arith, len, z, q)) in
-      let e5 = same-rates n rs x refl in
-      let e6 = no-rates n rs (each-first (λ y. y .account < n) (rate-row (g .rates)) (g .rates .count) (w .rates .owners)) in
-      cc
-
-  added-most : most-done h ≡ suc (most-done g)
-  added-most = omega (arith, t, f .count, ap (λ y. y .count) b, ap (λ y. backs (rows y)) b)
-
-  pub made-added : Made g h (adds (new-account since l r))
-  unfolding rates-set bank
-  made-added =
+-- one more account
+module _ (g h : Ledger) (l : ℕ) (w : Whole g) (small : l ≤ 100000000000) (u : g .accounts .count < g .accounts .capacity) (t : h .today ≡ g .today) (d : h .done ≡ g .done)
+    (b : h .bookings ≡ g .bookings) (s : h .scratch ≡ g .scratch) (e : Account-added (g .accounts) (h .accounts) l) (i : Begun-both (g .chains) (h .chains) (g .accounts .count)) where
+  whole-added : Rated (h .rates) (g .accounts .count + 1) → g .rates .count ≤ h .rates .count → Whole h
+  whole-added r q =
       let n : ℕ = g .accounts .count in
       record {
-        bank-is = added-bank;
-        rates-are =
-            f .rows ∙ ap (λ m. rate-rows (g .rates) ++ (record { account = m; since = since; rate = r } ∷ []))
-            (sym (accounts-length 0 (limits-in (g .accounts)) (rate-rows (g .rates)) ∙ length-first (λ c. getD (now (g .accounts .limit)) c 0) n));
-        whole = record {
-          accounts = roomy-added (g .accounts) (h .accounts) l (w .accounts) u small e;
-          rates = rw (e .count) (f .rated (n + 1) (rated-more (g .rates) n (n + 1) (omega arith) (w .rates)) (omega arith));
-          bookings = rw b (w .bookings);
-          scratch = rw (s, e .capacity) (w .scratch);
-          sums = rw b (sums-added (g .accounts) (h .accounts) l (rows (g .bookings)) (w .accounts) u e (none-to g w) (none-from g w) (none-ordered g w) (w .sums));
-          fit = rw (b, e .count, t) (λ j v. fit-more (g .today) n (g .today) (n + 1) (row (g .bookings) j) (omega arith) (omega arith) (w .fit j v));
-          today = rw t (w .today);
-          done = omega (arith, w .done, added-most, d);
-          to-room = rw (b, e .capacity) (linkable-begun (g .incoming) (h .incoming) n _ _ (w .to-room) i);
-          from-room = rw (b, e .capacity) (linkable-begun (g .outgoing) (h .outgoing) n _ _ (w .from-room) o);
-          incoming = rw (b, e .count) (chained-begun (g .incoming) (h .incoming) (λ j. row (g .bookings) j .to) (g .bookings .count) n (omega (arith, w .to-room .accounts)) (w .incoming) i (λ j v. w .fit j v .to));
-          outgoing = rw (b, e .count) (chained-begun (g .outgoing) (h .outgoing) (λ j. row (g .bookings) j .from) (g .bookings .count) n (omega (arith, w .from-room .accounts)) (w .outgoing) o (λ j v. w .fit j v .from));
-        };
-        limits-stay = let a = e .capacity in let c = f .capacity in cc;
-        unit = omega (arith, w .done, added-most, d);
+        accounts = roomy-added (g .accounts) (h .accounts) l (w .accounts) u small e;
+        rates = rw (e .count) r;
+        bookings = rw b (w .bookings);
+        scratch = rw (s, e .capacity) (w .scratch);
+        sums = rw b (sums-added (g .accounts) (h .accounts) l (rows (g .bookings)) (w .accounts) u e (none-to g w) (none-from g w) (none-ordered g w) (w .sums));
+        fit = rw (b, e .count, t) (λ j v. fit-more (g .today) n (g .today) (n + 1) (row (g .bookings) j) (omega arith) (omega arith) (w .fit j v));
+        today = rw t (w .today);
+        done = omega (arith, w .done, t, d, q, ap (λ y. y .count) b, ap (λ y. backs (rows y)) b);
+        chains = rw (b, e .capacity) (linkable-begun (g .chains) (h .chains) n _ _ (w .chains) i);
+        incoming = rw (b, e .count) (chained-begun (g .chains .incoming) (h .chains .incoming) (λ j. row (g .bookings) j .to) (g .bookings .count) n (omega (arith, w .chains .heads-in)) (w .incoming) (i .incoming) (λ j v. w .fit j v .to));
+        outgoing = rw (b, e .count) (chained-begun (g .chains .outgoing) (h .chains .outgoing) (λ j. row (g .bookings) j .from) (g .bookings .count) n (omega (arith, w .chains .heads-out)) (w .outgoing) (i .outgoing) (λ j v. w .fit j v .from));
       }
 
--- one more account, without a rate
-module _ (g h : Ledger) (n l : ℕ) (w : Whole g) (small : l ≤ 100000000000) (u : g .accounts .count < g .accounts .capacity) (t : h .today ≡ g .today) (d : h .done ≡ g .done)
-    (b : h .bookings ≡ g .bookings) (r : h .rates ≡ g .rates) (s : h .scratch ≡ g .scratch) (e : Account-added (g .accounts) (h .accounts) l) (q : n ≡ g .accounts .count)
-    (i : Begun (g .incoming) (h .incoming) n) (o : Begun (g .outgoing) (h .outgoing) n) where
-  bare-bank : bank h ≡ made (bank g) (adds (bare-account l))
-  unfolding bank made
-  bare-bank =
-      let m : ℕ = g .accounts .count in
-      let ms : List ℕ = limits-in (g .accounts) in
-      let rs : List Dated = rate-rows (g .rates) in
-      let e1 = limits-added (g .accounts) (h .accounts) l (w .accounts) u e in
-      let e2 = accounts-snoc 0 ms l rs m (omega (arith, length-first (λ c. getD (now (g .accounts .limit)) c 0) m)) in
-      let e3 = no-rates m rs (each-first (λ y. y .account < m) (rate-row (g .rates)) (g .rates .count) (w .rates .owners)) in
-      cc
+  length-limits : length (limits-in (g .accounts)) ≡ g .accounts .count
+  length-limits = length-first (λ c. getD (now (g .accounts .limit)) c 0) (g .accounts .count)
 
-  pub bare : Becomes g h (made (bank g) (adds (bare-account l)))
-  unfolding rates-set
-  bare =
-      let m : ℕ = g .accounts .count in
-      let i′ = subst (Begun (g .incoming) (h .incoming)) q i in
-      let o′ = subst (Begun (g .outgoing) (h .outgoing)) q o in
-      record {
-        bank-is = bare-bank;
-        rates-are = ap rate-rows r;
-        whole = record {
-          accounts = roomy-added (g .accounts) (h .accounts) l (w .accounts) u small e;
-          rates = rw (e .count, r) (rated-more (g .rates) m (m + 1) (omega arith) (w .rates));
-          bookings = rw b (w .bookings);
-          scratch = rw (s, e .capacity) (w .scratch);
-          sums = rw b (sums-added (g .accounts) (h .accounts) l (rows (g .bookings)) (w .accounts) u e (none-to g w) (none-from g w) (none-ordered g w) (w .sums));
-          fit = rw (b, e .count, t) (λ j v. fit-more (g .today) m (g .today) (m + 1) (row (g .bookings) j) (omega arith) (omega arith) (w .fit j v));
-          today = rw t (w .today);
-          done = omega (arith, w .done, t, d, ap (λ y. y .count) r, ap (λ y. y .count) b, ap (λ y. backs (rows y)) b);
-          to-room = rw (b, e .capacity) (linkable-begun (g .incoming) (h .incoming) m _ _ (w .to-room) i′);
-          from-room = rw (b, e .capacity) (linkable-begun (g .outgoing) (h .outgoing) m _ _ (w .from-room) o′);
-          incoming = rw (b, e .count) (chained-begun (g .incoming) (h .incoming) (λ j. row (g .bookings) j .to) (g .bookings .count) m (omega (arith, w .to-room .accounts)) (w .incoming) i′ (λ j v. w .fit j v .to));
-          outgoing = rw (b, e .count) (chained-begun (g .outgoing) (h .outgoing) (λ j. row (g .bookings) j .from) (g .bookings .count) m (omega (arith, w .from-room .accounts)) (w .outgoing) o′ (λ j v. w .fit j v .from));
-        };
-        limits-stay = let a = e .capacity in cc;
-      }
+  -- it has no rate before
+  unrated : rates-of (g .accounts .count) (rate-rows (g .rates)) ≡ []
+  unrated = no-rates (g .accounts .count) (rate-rows (g .rates)) (each-first (λ y. y .account < g .accounts .count) (rate-row (g .rates)) (g .rates .count) (w .rates .owners))
+
+  -- without a rate
+  module _ (r : h .rates ≡ g .rates) where
+    bare-bank : bank h ≡ made (bank g) (adds (bare-account l))
+    unfolding bank made
+    bare-bank =
+        let e1 = limits-added (g .accounts) (h .accounts) l (w .accounts) u e in
+        let e2 = accounts-snoc 0 (limits-in (g .accounts)) l (rate-rows (g .rates)) (g .accounts .count) (omega (arith, length-limits)) in
+        let e3 = unrated in
+        cc
+
+    pub bare : Becomes g h (made (bank g) (adds (bare-account l)))
+    unfolding rates-set
+    bare = record {
+      bank-is = bare-bank;
+      rates-are = ap rate-rows r;
+      whole = whole-added (rw r (rated-more (g .rates) (g .accounts .count) (g .accounts .count + 1) (omega arith) (w .rates))) (omega (arith, ap (λ y. y .count) r));
+      limits-stay = let a = e .capacity in cc;
+    }
+
+  -- with a rate
+  module _ (since r : ℕ) (f : Rate-added (g .rates) (h .rates) (record { account = g .accounts .count; since = since; rate = r })) where
+    added-bank : bank h ≡ made (bank g) (adds (new-account since l r))
+    unfolding bank made
+    added-bank =
+        let n : ℕ = g .accounts .count in
+        let x : Dated = record { account = n; since = since; rate = r } in
+        let ms : List ℕ = limits-in (g .accounts) in
+        let rs : List Dated = rate-rows (g .rates) in
+        let e1 = limits-added (g .accounts) (h .accounts) l (w .accounts) u e in
+        let e2 = f .rows in
+        let e3 = accounts-snoc 0 ms l (rs ++ (x ∷ [])) n (omega (arith, length-limits)) in
+        let e4 = accounts-skip 0 ms rs x (λ k p q z. omega (arith, length-limits, z, q)) in
+        let e5 = same-rates n rs x refl in
+        let e6 = unrated in
+        cc
+
+    pub made-added : Made g h (adds (new-account since l r))
+    unfolding rates-set bank
+    made-added = record {
+      bank-is = added-bank;
+      rates-are =
+          f .rows ∙ ap (λ m. rate-rows (g .rates) ++ (record { account = m; since = since; rate = r } ∷ []))
+          (sym (accounts-length 0 (limits-in (g .accounts)) (rate-rows (g .rates)) ∙ length-limits));
+      whole = whole-added (f .rated (g .accounts .count + 1) (rated-more (g .rates) (g .accounts .count) (g .accounts .count + 1) (omega arith) (w .rates)) (omega arith)) (omega (arith, f .count));
+      limits-stay = let a = e .capacity in let c = f .capacity in cc;
+      unit = omega (arith, w .done, t, f .count, d, ap (λ y. y .count) b, ap (λ y. backs (rows y)) b);
+    }
 
 -- the same, by the number that the account gets
-pub made-added-at : (g h : Ledger) (n l r : ℕ) (w : Whole g) (small : l ≤ 100000000000) (u : g .accounts .count < g .accounts .capacity) (t : h .today ≡ g .today) (d : h .done ≡ g .done)
-    (b : h .bookings ≡ g .bookings) (s : h .scratch ≡ g .scratch) (e : Account-added (g .accounts) (h .accounts) l) → n ≡ g .accounts .count →
-    Rate-added (g .rates) (h .rates) (record { account = n; since = g .today; rate = r }) → Begun (g .incoming) (h .incoming) n → Begun (g .outgoing) (h .outgoing) n →
-    Made g h (adds (new-account (bank g .today) l r))
-made-added-at g h n l r w small u t d b s e q f i o =
-    subst (λ (m : ℕ). Made g h (adds (new-account m l r))) (sym (bank-today g))
-    (made-added g h l (g .today) r w small u t d b s e (subst (λ (m : ℕ). Rate-added (g .rates) (h .rates) (record { account = m; since = g .today; rate = r })) q f)
-    (subst (Begun (g .incoming) (h .incoming)) q i) (subst (Begun (g .outgoing) (h .outgoing)) q o))
+module _ (g h : Ledger) (n l : ℕ) (w : Whole g) (small : l ≤ 100000000000) (u : g .accounts .count < g .accounts .capacity) (t : h .today ≡ g .today) (d : h .done ≡ g .done)
+    (b : h .bookings ≡ g .bookings) (s : h .scratch ≡ g .scratch) (e : Account-added (g .accounts) (h .accounts) l) (q : n ≡ g .accounts .count) (i : Begun-both (g .chains) (h .chains) n) where
+  begun : Begun-both (g .chains) (h .chains) (g .accounts .count)
+  begun = subst (Begun-both (g .chains) (h .chains)) q i
+
+  pub bare-at : h .rates ≡ g .rates → Becomes g h (made (bank g) (adds (bare-account l)))
+  bare-at r = bare g h l w small u t d b s e begun r
+
+  pub made-added-at : (r : ℕ) → Rate-added (g .rates) (h .rates) (record { account = n; since = g .today; rate = r }) → Made g h (adds (new-account (bank g .today) l r))
+  made-added-at r f =
+      subst (λ (m : ℕ). Made g h (adds (new-account m l r))) (sym (bank-today g))
+      (made-added g h l w small u t d b s e begun (g .today) r (subst (λ (m : ℕ). Rate-added (g .rates) (h .rates) (record { account = m; since = g .today; rate = r })) q f))
 
 -- and one more booking, by its number and by what the caller knows of the bank
 pub made-booked-at : (g h : Ledger) (n : ℕ) (b : Booking) (w : Whole g) → Fit (bank g .today) (length (bank g .accounts)) b → length (bank g .bookings) < g .bookings .capacity → h .today ≡ g .today → h .done ≡ g .done →
-    n ≡ g .bookings .count → Credited (g .accounts) (h .accounts) b → Appended (g .bookings) (h .bookings) b → Linked (g .incoming) (h .incoming) (b .to) n → Linked (g .outgoing) (h .outgoing) (b .from) n →
+    n ≡ g .bookings .count → Credited (g .accounts) (h .accounts) b → Appended (g .bookings) (h .bookings) b → Linked-both (g .chains) (h .chains) b n →
     h .rates ≡ g .rates → h .scratch ≡ g .scratch → Made g h (books b)
-made-booked-at g h n b w f v t d q k p l o r s =
-    made-booked g h b w (fit-here g b f) (omega (arith, bank-count g)) t d k p (subst (Linked (g .incoming) (h .incoming) (b .to)) q l) (subst (Linked (g .outgoing) (h .outgoing) (b .from)) q o) r s
-
--- scratch cells mean nothing: whoever writes them leaves the book as it was
-pub scratch-free : (g h : Ledger) → Whole g → Spare (h .scratch) (g .accounts .capacity) → h .accounts ≡ g .accounts → h .rates ≡ g .rates → h .bookings ≡ g .bookings → h .incoming ≡ g .incoming →
-    h .outgoing ≡ g .outgoing → h .today ≡ g .today → h .done ≡ g .done → Becomes g h (bank g)
-unfolding bank rates-set
-scratch-free g h w x a r b i o t d = record {
-  bank-is = cc;
-  rates-are = ap rate-rows r;
-  whole = record {
-    accounts = rw a (w .accounts);
-    rates = rw (r, a) (w .rates);
-    bookings = rw b (w .bookings);
-    scratch = rw a x;
-    sums = rw (a, b) (w .sums);
-    fit = rw (a, b, t) (w .fit);
-    today = rw t (w .today);
-    done = omega (arith, w .done, d, t, ap (λ y. y .count) r, ap (λ y. y .count) b, ap (λ y. backs (rows y)) b);
-    to-room = rw (i, a, b) (w .to-room);
-    from-room = rw (o, a, b) (w .from-room);
-    incoming = rw (i, b, a) (w .incoming);
-    outgoing = rw (o, b, a) (w .outgoing);
-  };
-  limits-stay = cc;
-}
+made-booked-at g h n b w f v t d q k p l r s =
+    made-booked g h b w (fit-here g b f) (omega (arith, bank-count g)) t d k p (subst (Linked-both (g .chains) (h .chains) b) q l) r s

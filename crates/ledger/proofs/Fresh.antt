@@ -1,37 +1,34 @@
 -- A ledger that was just laid out is the new bank.
-use mathlib.Core.Path.{_≡_, refl, sym, ap, _∙_}
+use mathlib.Core.Path.{_≡_, sym, ap, _∙_}
 use mathlib.Core.Bool.{Bool}
-use mathlib.Core.List.{List, [], _∷_}
-use Prim.Native.Nat.{ℕ, _+_, _≤_, _<_}
+use mathlib.Core.List.{[], _∷_}
+use Prim.Native.Nat.{ℕ}
 use native.Mathlib.Omega.{arith}
-use lib.ListN.{length, getD}
-use denote.Ref.{now}
 use Rattle.bank.specs.Book.{Booking}
 use Rattle.bank.specs.Calls.{Limits, new-bank}
 use Rattle.bank.specs.Sums.{tally}
-use Rattle.model.specs.Register.{Dated}
 use Rattle.model.specs.Snapshot.{rates-of, accounts-of}
 use Rattle.columns.specs.Cells.{limits-in, New-accounts}
 use Rattle.columns.specs.Firsts.{first-of}
-use Rattle.columns.specs.Links.{Linkable, Chained, New-chains}
+use Rattle.columns.specs.Links.{Chained, New-chain, New-chains}
 use Rattle.columns.specs.RateRows.{rate-row, rate-rows, New-rates}
 use Rattle.columns.specs.Rows.{row, rows, New-bookings}
 use Rattle.columns.specs.Spare.{Spare}
 use Rattle.columns.proofs.Chain.{latest-none}
 use Rattle.columns.proofs.First.{first-none}
 use Rattle.columns.proofs.Put.{tally-none}
-use Rattle.columns.specs.declared.chains.Chains.{Chains}
-use Rattle.ledger.specs.Meaning.{bank, rates-set, limits}
+use Rattle.columns.specs.declared.chains.Chain.{Chain}
+use Rattle.ledger.specs.Meaning.{bank, rates-set}
 use Rattle.ledger.specs.Opened.{New}
 use Rattle.ledger.specs.Whole.{Whole}
 use Rattle.ledger.specs.declared.Ledger.{Ledger}
 
 module _ (g : Ledger) (l : Limits) (t : g .today ≡ 0) (d : g .done ≡ 0) (a : New-accounts (g .accounts) (l .accounts)) (r : New-rates (g .rates) (l .rates)) (b : New-bookings (g .bookings) (l .bookings))
-    (i : New-chains (g .incoming) (l .accounts) (l .bookings)) (o : New-chains (g .outgoing) (l .accounts) (l .bookings)) (s : Spare (g .scratch) (l .accounts)) where
+    (i : New-chains (g .chains) (l .accounts) (l .bookings)) (s : Spare (g .scratch) (l .accounts)) where
   nothing : (p : Booking → Bool) → tally p (rows (g .bookings)) ≡ 0
   nothing p = ap (λ n. tally p (first-of (row (g .bookings)) n)) (b .count) ∙ tally-none p (g .bookings)
 
-  fresh-chains : (c : Chains) (f : ℕ → ℕ) → New-chains c (l .accounts) (l .bookings) → Chained c f (g .bookings .count) (g .accounts .count)
+  fresh-chains : (c : Chain) (f : ℕ → ℕ) → New-chain c (l .accounts) (l .bookings) → Chained c f (g .bookings .count) (g .accounts .count)
   fresh-chains c f n = rw (b .count, a .count) (record { heads = λ k u. n .heads k u ∙ sym (latest-none f k); links = λ k u. absurd (omega (arith, u)) })
 
   fresh-whole : Whole g
@@ -48,10 +45,9 @@ module _ (g : Ledger) (l : Limits) (t : g .today ≡ 0) (d : g .done ≡ 0) (a :
     fit = λ k u. absurd (omega (arith, u, b .count));
     today = omega arith;
     done = omega (arith, d);
-    to-room = rw (a .capacity, b .capacity) (i .room);
-    from-room = rw (a .capacity, b .capacity) (o .room);
-    incoming = fresh-chains (g .incoming) (λ k. row (g .bookings) k .to) i;
-    outgoing = fresh-chains (g .outgoing) (λ k. row (g .bookings) k .from) o;
+    chains = rw (a .capacity, b .capacity) (record { heads-in = i .incoming .heads-room; links-in = i .incoming .links-room; heads-out = i .outgoing .heads-room; links-out = i .outgoing .links-room });
+    incoming = fresh-chains (g .chains .incoming) (λ k. row (g .bookings) k .to) (i .incoming);
+    outgoing = fresh-chains (g .chains .outgoing) (λ k. row (g .bookings) k .from) (i .outgoing);
   }
 
   fresh-limits : limits-in (g .accounts) ≡ 0 ∷ (0 ∷ [])

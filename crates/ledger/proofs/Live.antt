@@ -1,24 +1,21 @@
 -- The running sums are the bank's: by today, as known today, a booking counts if it was not taken back. And no sum is large.
 use mathlib.Core.Path.{_≡_, refl, sym, ap, _∙_}
-use mathlib.Core.Logic.{_≢_}
-use mathlib.Core.Bool.{Bool, true, false, _&&_}
-use mathlib.Core.List.{List, [], _∷_}
-use Prim.Native.Nat.{ℕ, zero, suc, _+_, _-_, _*_, _≤_, _<_}
+use mathlib.Core.Bool.{Bool, false, _&&_}
+use Prim.Native.Nat.{ℕ, zero, suc, _+_, _-_, _≤_, _<_}
 use native.Mathlib.Nat.{add-zero, add-suc}
 use native.Mathlib.Numerals.{add-one}
 use native.Mathlib.Omega.{arith}
 use lib.Dec.{eqb, leb}
-use lib.ListN.{length, getD}
+use lib.ListN.{getD}
 use denote.Ref.{now}
 use Rattle.std.proofs.shelf.Tests.{le-leb}
 use Rattle.std.proofs.shelf.Ways.{tells}
-use Rattle.bank.specs.Book.{pick, Booking, Bank, known, came, left}
+use Rattle.bank.specs.Book.{Booking, Bank, known, came, left}
 use Rattle.bank.specs.Calls.{in-all, out-all, all-in, all-out, ordered}
 use Rattle.bank.specs.Sums.{tally, to-by, from-by, orders}
 use Rattle.bank.proofs.Balance.{all-of}
 use Rattle.bank.proofs.Bounded.{in-over, out-over}
 use Rattle.bank.proofs.Tally.{came-tally, left-tally, ordered-tally, tally-same, tally-none}
-use Rattle.columns.specs.Firsts.{first-of}
 use Rattle.columns.specs.Parts.{live-to, live-from}
 use Rattle.columns.specs.Rows.{row, rows}
 use Rattle.columns.proofs.First.{each-first}

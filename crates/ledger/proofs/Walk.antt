@@ -1,8 +1,7 @@
 -- A walk along an account's chain adds up what its bookings give: the amounts of those that pass a test, which those of other parties do not.
-use mathlib.Core.Path.{_≡_, refl, sym, ap, subst, _∙_}
-use mathlib.Core.Bool.{Bool, true, false}
-use mathlib.Core.List.{List}
-use Prim.Native.Nat.{ℕ, zero, suc, _+_, _-_, _*_, _≤_, _<_}
+use mathlib.Core.Path.{_≡_, ap, subst, _∙_}
+use mathlib.Core.Bool.{Bool, false}
+use Prim.Native.Nat.{ℕ, suc, _+_, _-_, _≤_, _<_}
 use native.Mathlib.Omega.{arith}
 use native.Mathlib.Numerals.{add-one}
 use lib.ListN.{length, getD}
@@ -12,12 +11,12 @@ use Rattle.bank.specs.Book.{pick, Booking, came, left}
 use Rattle.bank.specs.Sums.{tally, to-by, from-by}
 use Rattle.bank.proofs.Tally.{came-tally, left-tally}
 use Rattle.columns.specs.Firsts.{first-of}
-use Rattle.columns.specs.Links.{latest, Linkable, Chained}
+use Rattle.columns.specs.Links.{latest, Chained}
 use Rattle.columns.specs.Rows.{row, rows, Sound}
 use Rattle.columns.proofs.Chain.{latest-le, latest-fix, latest-hit, tally-latest}
 use Rattle.columns.proofs.Put.{tally-none, tally-more, tally-small}
 use Rattle.columns.specs.declared.bookings.Bookings.{Bookings}
-use Rattle.columns.specs.declared.chains.Chains.{Chains}
+use Rattle.columns.specs.declared.chains.Chain.{Chain}
 use Rattle.ledger.specs.Meaning.{bank}
 use Rattle.ledger.specs.Whole.{Whole}
 use Rattle.ledger.specs.declared.Ledger.{Ledger}
@@ -29,19 +28,17 @@ pub record Walk (c : Bookings) (p : Booking → ℕ) (t : Booking → Bool) (a n
   pub ends : latest (λ i. p (row c i)) a next ≡ next
   pub total : sum + tally t (first-of (row c) next) ≡ tally t (rows c)
 
+pub walk-room : {c : Bookings} {p : Booking → ℕ} {t : Booking → Bool} {a next sum i m : ℕ} → Walk c p t a next sum → c .count ≤ m → next ≡ suc i → i + 1 ≤ m
+walk-room s u e = omega (arith, s .there)
+
 -- a chain over sound bookings, and which of them count for account a
-pub record Way (c : Bookings) (h : Chains) (p : Booking → ℕ) (t : Booking → Bool) (a m : ℕ) : Type 0 where
+pub record Way (c : Bookings) (h : Chain) (p : Booking → ℕ) (t : Booking → Bool) (a m : ℕ) : Type 0 where
   pub sound : Sound c
   pub chained : Chained h (λ i. p (row c i)) (c .count) m
   pub there : a < m
-  pub heads : m ≤ length (now (h .newest))
-  pub links : c .count ≤ length (now (h .before))
   pub other : (b : Booking) → (p b ≡ a → ⊥) → t b ≡ false
 
-module _ {c : Bookings} {h : Chains} {p : Booking → ℕ} {t : Booking → Bool} {a m : ℕ} (y : Way c h p t a m) where
-  pub walk-head : a < length (now (h .newest))
-  walk-head = omega (arith, y .there, y .heads)
-
+module _ {c : Bookings} {h : Chain} {p : Booking → ℕ} {t : Booking → Bool} {a m : ℕ} (y : Way c h p t a m) where
   pub walk-start : (n : ℕ) → n ≡ getD (now (h .newest)) a 0 → Walk c p t a n 0
   walk-start n q =
       let e = q ∙ y .chained .heads a (y .there) in
@@ -89,23 +86,19 @@ from-other k a d b h = grind (arith, tells)
 
 -- the two ways of a ledger, and what they add up to
 module _ (g : Ledger) (k a d : ℕ) (w : Whole g) (u : a < length (bank g .accounts)) where
-  pub way-in : Way (g .bookings) (g .incoming) (λ b. b .to) (to-by k a d) a (g .accounts .count)
+  pub way-in : Way (g .bookings) (g .chains .incoming) (λ b. b .to) (to-by k a d) a (g .accounts .count)
   way-in = record {
     sound = w .bookings;
     chained = w .incoming;
     there = omega (arith, u, bank-accounts g);
-    heads = omega (arith, w .to-room .accounts, w .accounts .count);
-    links = omega (arith, w .to-room .bookings, w .bookings .count);
     other = to-other k a d;
   }
 
-  pub way-out : Way (g .bookings) (g .outgoing) (λ b. b .from) (from-by k a d) a (g .accounts .count)
+  pub way-out : Way (g .bookings) (g .chains .outgoing) (λ b. b .from) (from-by k a d) a (g .accounts .count)
   way-out = record {
     sound = w .bookings;
     chained = w .outgoing;
     there = omega (arith, u, bank-accounts g);
-    heads = omega (arith, w .from-room .accounts, w .accounts .count);
-    links = omega (arith, w .from-room .bookings, w .bookings .count);
     other = from-other k a d;
   }
 

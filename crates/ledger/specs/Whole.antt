@@ -30,10 +30,9 @@ pub record Whole (g : Ledger) : Type 0 where
   pub fit : (i : ℕ) → i < g .bookings .count → Fit (g .today) (g .accounts .count) (row (g .bookings) i)
   pub today : g .today ≤ 3650
   pub done : g .done ≤ most-done g
-  pub to-room : Linkable (g .incoming) (g .accounts .capacity) (g .bookings .capacity)
-  pub from-room : Linkable (g .outgoing) (g .accounts .capacity) (g .bookings .capacity)
-  pub incoming : Chained (g .incoming) (λ i. row (g .bookings) i .to) (g .bookings .count) (g .accounts .count)
-  pub outgoing : Chained (g .outgoing) (λ i. row (g .bookings) i .from) (g .bookings .count) (g .accounts .count)
+  pub chains : Linkable (g .chains) (g .accounts .capacity) (g .bookings .capacity)
+  pub incoming : Chained (g .chains .incoming) (λ i. row (g .bookings) i .to) (g .bookings .count) (g .accounts .count)
+  pub outgoing : Chained (g .chains .outgoing) (λ i. row (g .bookings) i .from) (g .bookings .count) (g .accounts .count)
 
 -- an effect on g leaves h: the bank and its rates as the effect makes them, and a unit of the limits, or a day, more used up, so that a call can be counted
 pub record Made (g h : Ledger) (e : Effect) : Type 0 where

@@ -19,10 +19,10 @@ impl Ledger<'_> {
         ensures { λ r. ⌜ r ≡ came «known_day» account «value_day» (bank (now (self .entry)) .bookings) ⌝ }
     {
         let mut sum = 0;
-        let mut next = self.incoming.newest(account);
+        let mut next = self.chains.newest_to(account);
         while let Some(i) = next {
             sum += brings_to(self.bookings.get(i), account, value_day, known_day);
-            next = self.incoming.before(i);
+            next = self.chains.before_to(i);
         }
         sum
     }
@@ -34,10 +34,10 @@ impl Ledger<'_> {
         ensures { λ r. ⌜ r ≡ left «known_day» account «value_day» (bank (now (self .entry)) .bookings) ⌝ }
     {
         let mut sum = 0;
-        let mut next = self.outgoing.newest(account);
+        let mut next = self.chains.newest_from(account);
         while let Some(i) = next {
             sum += takes_from(self.bookings.get(i), account, value_day, known_day);
-            next = self.outgoing.before(i);
+            next = self.chains.before_from(i);
         }
         sum
     }

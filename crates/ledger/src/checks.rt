@@ -91,8 +91,7 @@ impl Ledger<'_> {
         if account < 2 {
             return true;
         }
-        let cells = self.accounts.get(account as usize);
-        cells.left + amount <= cells.came + cells.limit
+        self.accounts.get(account as usize).covers(amount)
     }
 
     // What came to an account by orders that were not taken back.

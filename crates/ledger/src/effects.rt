@@ -30,8 +30,7 @@ impl Ledger<'_> {
             since,
             rate,
         });
-        self.incoming.begin(number);
-        self.outgoing.begin(number);
+        self.chains.begin(number);
         number as u32
     }
 
@@ -55,8 +54,7 @@ impl Ledger<'_> {
     {
         let number = self.bookings.count();
         self.accounts.credit(b);
-        self.incoming.link(b.to, number);
-        self.outgoing.link(b.from, number);
+        self.chains.link(b, number);
         self.bookings.append(b);
     }
 

@@ -18,10 +18,7 @@ pub struct Ledger<'a> {
     accounts: Accounts<'a>,
     rates: Rates<'a>,
     bookings: Bookings<'a>,
-    // chains by the account to which an amount goes
-    incoming: Chains<'a>,
-    // and by the account from which it comes
-    outgoing: Chains<'a>,
+    chains: Chains<'a>,
     // cells for a month's end, which mean nothing between two calls
     pub scratch: Scratch<'a>,
     today: u32,

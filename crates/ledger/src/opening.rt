@@ -1,15 +1,21 @@
-// Opening a book: lent memory is cut into columns once.
+// Opening a book: lent memory is cut into columns once, in this order.
 //
-// | cells | of 8 bytes each | cells | of 4 bytes each |
-// |---|---|---|---|
-// | accounts | limit | accounts | newest booking to it |
-// | accounts | came | bookings | the one before it to the same account |
-// | accounts | left | accounts | newest booking from it |
-// | accounts | ordered | bookings | the one before it from the same account |
-// | accounts | scratch: balance | accounts | scratch: rate of the day |
-// | accounts | scratch: units | rates | account, since, rate: a column each |
-// | bookings | amount | bookings | on, value, from, to, kind, back: a column each |
-ghost use lib.ListN.{length};
+// | lent | column | cells |
+// |---|---|---|
+// | cents, 8 bytes a cell | limit | accounts |
+// | | came | accounts |
+// | | left | accounts |
+// | | ordered | accounts |
+// | | scratch: balance | accounts |
+// | | scratch: units | accounts |
+// | | amount | bookings |
+// | numbers, 4 bytes a cell | newest booking to an account | accounts |
+// | | the one before a booking to the same account | bookings |
+// | | newest booking from an account | accounts |
+// | | the one before a booking from the same account | bookings |
+// | | scratch: rate of the day | accounts |
+// | | rates: account, since, rate | rates, for each |
+// | | bookings: on, value, from, to, kind, back | bookings, for each |
 ghost use mathlib.Core.Path.{_≡_};
 ghost use Rattle.columns.specs.Sizes.{limits-of};
 ghost use Rattle.ledger.specs.Opened.{place-of, misfit, Opened};
@@ -85,16 +91,14 @@ impl<'a> Ledger<'a> {
         let rates = limits.rates as usize;
         let (running, rest) = cents.split_at_mut(4 * accounts);
         let (spare, amounts) = rest.split_at_mut(2 * accounts);
-        let (incoming, rest) = numbers.split_at_mut(accounts + bookings);
-        let (outgoing, rest) = rest.split_at_mut(accounts + bookings);
+        let (links, rest) = numbers.split_at_mut(2 * (accounts + bookings));
         let (spare_rates, rest) = rest.split_at_mut(accounts);
         let (rated, booked) = rest.split_at_mut(3 * rates);
         Ok(Ledger {
             accounts: Accounts::lay(running, accounts),
             rates: Rates::lay(rated, rates),
             bookings: Bookings::lay(amounts, booked, bookings),
-            incoming: Chains::lay(incoming, accounts, bookings),
-            outgoing: Chains::lay(outgoing, accounts, bookings),
+            chains: Chains::lay(links, accounts, bookings),
             scratch: Scratch::lay(spare, spare_rates, accounts),
             today: 0,
             done: 0,

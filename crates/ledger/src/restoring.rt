@@ -1,7 +1,6 @@
 // Taking a book over from a snapshot: accounts without their rates, the rates in the order in which they were set, the day, the bookings as they stand, and how many calls were counted.
 ghost use Prim.Native.Nat.{_<_, _≤_};
 ghost use lib.ListN.{length};
-ghost use mathlib.Core.Path.{_≡_};
 ghost use Rattle.bank.specs.Builders.{with-today};
 ghost use Rattle.bank.specs.Effects.{adds, made};
 ghost use Rattle.ledger.specs.Meaning.{bank, limits, with-done, bare-account};
@@ -18,8 +17,7 @@ impl Ledger<'_> {
     {
         let number = self.accounts.count();
         self.accounts.append(limit);
-        self.incoming.begin(number);
-        self.outgoing.begin(number);
+        self.chains.begin(number);
     }
 
     // Goes on to a day.

@@ -47,11 +47,11 @@ module _ (l : Limits) where
   held n h = let q = fits-parts l n h in omega arith
 
   -- a call that changes the book adds one to its size, and stays within the limits
-  more : (n : Bank) (c : Call) → first-call c ≡ true → changes l n c ≡ true → (size (after l n c) ≡ suc (size n)) × (size (after l n c) ≤ l .accounts + l .bookings)
-  more n c g h =
+  pub more : (n : Bank) (c : Call) → plain c ≡ true → changes l n c ≡ true → (size (after l n c) ≡ suc (size n)) × (size (after l n c) ≤ l .accounts + l .bookings)
+  more n c p h =
       let a : not (asks c) ≡ true = and-parts _ _ h .0 in
       let t : turned l n c ≡ 0 = eqb-true (turned l n c) 0 (and-parts _ _ h .1) in
-      rw (after-taken l n c t) (one-more n c (and-parts _ _ g .1) a, held (changed n c) (taken-fits l n c t))
+      rw (after-taken l n c t) (one-more n c p a, held (changed n c) (taken-fits l n c t))
 
   no-question : (x : Bool) → not x ≡ true → x ≡ false
   no-question true h = never h
@@ -61,8 +61,8 @@ module _ (l : Limits) where
   first-grows a =
       record {
         idle = λ n c g h. unasked l n c h;
-        grows = λ n c g h. let m : (size (after l n c) ≡ suc (size n)) × (size (after l n c) ≤ l .accounts + l .bookings) = more n c g h in omega arith;
-        bound = λ n c g h. let m : (size (after l n c) ≡ suc (size n)) × (size (after l n c) ≤ l .accounts + l .bookings) = more n c g h in omega arith;
+        grows = λ n c g h. let m : (size (after l n c) ≡ suc (size n)) × (size (after l n c) ≤ l .accounts + l .bookings) = more n c (and-parts (readable c) (plain c) g .1) h in omega arith;
+        bound = λ n c g h. let m : (size (after l n c) ≡ suc (size n)) × (size (after l n c) ≤ l .accounts + l .bookings) = more n c (and-parts (readable c) (plain c) g .1) h in omega arith;
         storable = λ n c g h. storable l a n c h;
         no-question = λ n c g h. no-question (asks c) (and-parts _ _ h .0);
       }

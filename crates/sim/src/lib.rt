@@ -24,6 +24,13 @@ pub struct Unflushed<'a> {
     count: usize,
 }
 
+// The number at a place of a row; one that lacks counts as 0.
+fn number_in(row: &[u64], i: usize) -> u64
+    ensures { λ r. ⌜ r ≡ getD (now (row .entry)) i 0 ⌝ }
+{
+    if i < row.len() { row[i] } else { 0 }
+}
+
 impl<'a> Unflushed<'a> {
     // No writes. There is room for as many as there are places and whole blocks.
     pub fn new(places: &'a mut [u64], blocks: &'a mut [u8]) -> Unflushed<'a>
@@ -153,11 +160,8 @@ impl Unflushed<'_> {
     {
         let k = self.place(i);
         let turn = self.turn_of(k);
-        if turn >= row.len() {
-            return false;
-        }
         let earlier = self.times_written(i, k) as u64;
-        earlier < row[turn]
+        earlier < number_in(row, turn)
     }
 
     // Puts those writes into the image that the row leaves.

@@ -1,19 +1,19 @@
 -- Laws of answers as rows of bytes.
-use mathlib.Core.Path.{_≡_, refl, sym, ap, subst, _∙_}
-use mathlib.Core.Bool.{Bool, true, false, _&&_, _||_}
-use mathlib.Core.List.{List, [], _∷_, _++_, map, append-assoc}
-use Prim.Native.Nat.{ℕ, zero, suc, _+_, _-_, _*_, _≤_, _<_, max}
+use mathlib.Core.Path.{_≡_, refl, sym, ap, _∙_}
+use mathlib.Core.Bool.{Bool, true, false}
+use mathlib.Core.List.{List, [], _∷_, _++_, append-assoc}
+use Prim.Native.Nat.{ℕ, suc, _+_, _-_, _*_, _≤_, _<_}
 use native.Mathlib.Omega.{arith}
-use lib.Dec.{eqb, leb}
+use lib.Dec.{eqb}
 use lib.ListN.{length, length-append}
 use Rattle.std.proofs.shelf.Lists.{append-nil}
 use Rattle.bank.specs.Book.{Bank, Booking, pick}
-use Rattle.bank.specs.Calls.{Call, opens, rated, move, take-back, day-ends, balance, statement, sums, taken-so-far, garbled, Limits, Answer, refused, number, amounts, lines, answer, told, turned, place, lines-of}
-use Rattle.device.specs.Rows.{row, with-bytes}
+use Rattle.bank.specs.Calls.{Call, opens, rated, move, take-back, day-ends, balance, statement, sums, taken-so-far, garbled, Answer, refused, number, amounts, lines, answer, told, turned, place, lines-of}
+use Rattle.device.specs.Rows.{with-bytes}
 use Rattle.device.proofs.Rows.{row-length}
-use Rattle.wire.specs.Bytes.{eights, form}
+use Rattle.wire.specs.Bytes.{eights}
 use Rattle.wire.specs.Answered.{written-booking, written-bookings, answer-head, answer-lines, written-answer, streamed, Streams, Suffices, Answers-fit}
-use Rattle.wire.proofs.Numbers.{length-form, put-none, put-put}
+use Rattle.wire.proofs.Numbers.{length-form, put-put}
 
 length-booking : (b : Booking) → length (written-booking b) ≡ 56
 length-booking b = row-length (eights 7) _

@@ -1,27 +1,26 @@
 -- Laws of calls as rows of bytes: what is read from what was written, and what was written where something was read.
 use mathlib.Core.Path.{_≡_, refl, sym, ap, subst, _∙_}
-use mathlib.Core.Bool.{Bool, true, false, _&&_}
-use mathlib.Core.Logic.{_⊎_, inl, inr}
+use mathlib.Core.Bool.{true, false, _&&_}
+use mathlib.Core.Logic.{inl, inr}
 use mathlib.Core.List.{List, [], _∷_, _++_}
-use Prim.Native.Nat.{ℕ, zero, suc, _+_, _-_, _*_, _^_, _≤_, _<_}
+use Prim.Native.Nat.{ℕ, zero, suc, _+_, _-_, _*_, _≤_, _<_}
 use native.Mathlib.Omega.{arith}
 use lib.Dec.{ltb}
 use lib.ListN.{length, getD, take, drop, replicate, length-drop, length-append, length-replicate}
 use borrow.Author.Tests.{lt-ltb, le-ltb}
 use Rattle.std.proofs.shelf.Lists.{take-rest, take-all, append-nil, drop-at}
 use Rattle.std.proofs.shelf.Tests.{and-parts, and-from, cases-lt}
-use Rattle.bank.specs.Book.{pick}
 use Rattle.bank.specs.Calls.{Call as Meant}
-use Rattle.bank.specs.Calls.{opens, rated, move, take-back, day-ends, balance, statement, sums, taken-so-far, garbled}
+use Rattle.bank.specs.Calls.{garbled}
 use Rattle.bank.specs.Promise.{carries, readable}
 use Rattle.device.specs.Device.{all-bytes}
 use Rattle.device.specs.Rows.{bytes-of, fits-in, number-of, numbers, row, width}
 use Rattle.device.proofs.Rows.{row-back, row-length}
 use Rattle.wire.specs.declared.call.Call.{Call}
 use Rattle.wire.specs.declared.call.Call.the-variants.{Open, Rate, Move, TakeBack, DayEnds, Balance, Statement, Sums, Taken}
-use Rattle.wire.specs.Bytes.{Wrote, eights, form}
+use Rattle.wire.specs.Bytes.{eights, form}
 use Rattle.wire.specs.Meaning.{meant}
-use Rattle.wire.specs.Format.{First, begins, fails, alone, arity, call-fields, call-number, call-of, first-call, read-call, written-call, Always-readable, Examples, One-row, Own-row, Reads-back, Reads-first}
+use Rattle.wire.specs.Format.{First, begins, fails, alone, arity, call-fields, call-number, call-of, first-call, written-call, Always-readable, Examples, One-row, Own-row, Reads-back, Reads-first}
 use Rattle.wire.proofs.Numbers.{bytes-tail, getD-zeros, length-numbers, narrow-eights, numbers-small, row-again, width-eights}
 
 -- a call's numbers as the code has them

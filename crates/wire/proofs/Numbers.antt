@@ -1,6 +1,6 @@
 -- Laws of numbers in bytes and of bytes written into others.
 use mathlib.Core.Path.{_≡_, refl, sym, ap, _∙_}
-use mathlib.Core.Bool.{Bool, true}
+use mathlib.Core.Bool.{true}
 use mathlib.Core.List.{List, [], _∷_, _++_, append-assoc}
 use Prim.Native.Nat.{ℕ, zero, suc, _+_, _-_, _*_, _/_, _%_, _≤_, _<_}
 use native.Mathlib.Nat.{div-div-eq-div-mul, add-assoc, add-zero, zero-add, suc-add}
@@ -10,7 +10,7 @@ use lib.ListN.{length, getD, set, take, drop, replicate, length-take, length-dro
 use Rattle.std.proofs.shelf.Lists.{take-at, drop-at, drop-drop, take-append-drop, take-append-le, drop-append-le, drop-replicate, take-replicate, append-nil, length-take-le, set-at, set-split, drop-take}
 use borrow.Rule.Slice.PartMut.{putMid, post-is}
 use Rattle.device.specs.Rows.{bytes-of, number-of, numbers, row, top, width, with-bytes}
-use Rattle.device.proofs.Rows.{length-bytes, row-length, zeros}
+use Rattle.device.proofs.Rows.{row-length, zeros}
 use Rattle.std.proofs.shelf.Tests.{and-parts, leb-true, ltb-true}
 use lib.Dec.{leb, ltb}
 use Rattle.device.specs.Device.{all-bytes}

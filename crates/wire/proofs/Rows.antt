@@ -1,14 +1,14 @@
 -- Laws of journal rows.
 use mathlib.Core.Path.{_≡_, refl, sym, ap, _∙_}
 use mathlib.Core.Bool.{Bool, true, false, not}
-use mathlib.Core.Logic.{_⊎_, inl, inr}
+use mathlib.Core.Logic.{inl, inr}
 use lib.Dec.{eqb}
 use borrow.Author.Tests.{eq-eqb}
 use Rattle.std.proofs.shelf.Tests.{and-from}
 use mathlib.Core.List.{List, [], _∷_, _++_, append-assoc}
-use Prim.Native.Nat.{ℕ, zero, suc, _+_, _-_, _*_, _≤_, _<_}
+use Prim.Native.Nat.{ℕ, zero, suc, _+_, _-_, _≤_, _<_}
 use native.Mathlib.Omega.{arith}
-use lib.ListN.{length, getD, take, drop, replicate, length-take, length-drop, length-append, length-replicate}
+use lib.ListN.{length, take, drop, replicate, length-take, length-drop, length-append, length-replicate}
 use borrow.Rule.Slice.PartMut.{putMid}
 use Rattle.bank.specs.Book.{pick}
 use Rattle.bank.specs.Calls.{Call as Meant}

@@ -24,6 +24,11 @@ use crate::bytes::put_number;
 use crate::bytes::put_numbers;
 use crate::call::Call;
 
+// How many bytes a row has, and its kind.
+pub const ROW: usize = 20;
+
+const KIND: usize = 2;
+
 // How wide the numbers of a kind are.
 fn widths(kind: u64) -> &'static [usize]
     requires { ⌜ kind ≤ 5 ⌝ }
@@ -46,9 +51,9 @@ pub fn write_row(block: &mut [u8], at: usize, call: Call)
     ensures { λ _. ⌜ now (block .exit) ≡ with-bytes (now (block .entry)) at (row-of call-row (meant call)) ⌝ }
 {
     let kind = call.number() as u64 + 1;
-    put_number(block, at, 2, kind);
-    let end = put_numbers(block, at + 2, widths(kind), &call.fields());
-    block[end..at + 20].fill(0);
+    put_number(block, at, KIND, kind);
+    let end = put_numbers(block, at + KIND, widths(kind), &call.fields());
+    block[end..at + ROW].fill(0);
 }
 
 // The call whose row stands in the 20 bytes from `at` on; none where the kind is none, as in zeros.
@@ -56,11 +61,11 @@ pub fn read_row(block: &[u8], at: usize) -> Option<Call>
     requires { ⌜ at + 20 ≤ length (now block) ⌝ }
     ensures { λ r. ⌜ Row-at (now (block .entry)) at r ⌝ }
 {
-    let kind = number_at(block, at, 2);
+    let kind = number_at(block, at, KIND);
     if kind == 0 || kind > 5 {
         return None;
     }
-    let numbers = numbers_at(block, at + 2, widths(kind));
+    let numbers = numbers_at(block, at + KIND, widths(kind));
     Some(Call::from_fields((kind - 1) as u8, &numbers))
 }
 

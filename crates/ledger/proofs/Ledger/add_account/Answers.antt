@@ -1,5 +1,6 @@
 use mathlib.Core.Path.{refl, sym, _∙_}
 use native.Mathlib.Omega.{arith}
+use Rattle.columns.proofs.Chain.{linkable-less}
 use Rattle.ledger.proofs.Bank.{bank-accounts, bank-rates}
 use Rattle.ledger.proofs.Effect.{made-added-at}
 use Rattle.ledger.proofs.Ledger.add_account.Needs as need
@@ -13,16 +14,15 @@ append-requires-2 c κs =
     record { rated = (g .accounts .count, c .pre .whole .rates); space = omega (arith, c .pre .rate, bank-rates g (c .pre .whole)) }
 
 pub begin-requires : need.begin-requires
-begin-requires c κs = omega (arith, c .pre .account, bank-accounts (c .args .self .now), c .pre .whole .to-room .accounts, c .count-number .ensures)
-
-pub begin-requires-2 : need.begin-requires-2
-begin-requires-2 c κs = omega (arith, c .pre .account, bank-accounts (c .args .self .now), c .pre .whole .from-room .accounts, c .count-number .ensures)
+begin-requires c κs =
+    let g = c .args .self .now in
+    (g .bookings .capacity, linkable-less (g .chains) _ _ _ _ (omega (arith, c .pre .account, bank-accounts g, c .count-number .ensures)) (omega arith) (c .pre .whole .chains))
 
 pub returns : need.returns
 returns c =
     let g = c .args .self .now in
     record {
       number = c .count-number .ensures ∙ sym (bank-accounts g);
-      made = made-added-at g _ (c .count-number .result) (c .args .limit) (c .args .rate) (c .pre .whole) (c .pre .small) (omega (arith, c .pre .account, bank-accounts g)) refl refl refl refl
-          (c .append .ensures) (c .count-number .ensures) (c .append-2 .ensures) (c .begin .ensures) (c .begin-2 .ensures);
+      made = made-added-at g _ (c .count-number .result) (c .args .limit) (c .pre .whole) (c .pre .small) (omega (arith, c .pre .account, bank-accounts g)) refl refl refl refl (c .append .ensures)
+          (c .count-number .ensures) (c .begin .ensures) (c .args .rate) (c .append-2 .ensures);
     }

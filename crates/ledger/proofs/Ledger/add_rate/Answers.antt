@@ -13,4 +13,4 @@ append-requires c κs =
 pub returns : need.returns
 returns c =
     let g = c .args .self .now in
-    made-rated g _ (dated (c .args .x)) (c .pre .whole) (omega (arith, c .pre .account, bank-accounts g)) refl refl refl refl refl refl refl (c .append .ensures)
+    made-rated g _ (dated (c .args .x)) (c .pre .whole) (omega (arith, c .pre .account, bank-accounts g)) refl refl refl refl refl refl (c .append .ensures)

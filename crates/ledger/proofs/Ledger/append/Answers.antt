@@ -1,8 +1,9 @@
 use mathlib.Core.Path.{refl}
 use native.Mathlib.Omega.{arith}
 use Rattle.wire.specs.Booked.{booked}
+use Rattle.columns.proofs.Chain.{linkable-less}
 use Rattle.columns.proofs.Running.{live-le, order-le}
-use Rattle.ledger.proofs.Bank.{bank-accounts, bank-count, bank-today}
+use Rattle.ledger.proofs.Bank.{bank-count, bank-today}
 use Rattle.ledger.proofs.Live.{came-small, left-small, ordered-small}
 use Rattle.ledger.proofs.Effect.{fit-here, made-booked-at}
 use Rattle.ledger.proofs.Ledger.append.Needs as need
@@ -29,20 +30,7 @@ link-requires c κs =
     let f = fit-here g (booked (c .args .b)) (c .pre .fit) in
     let n = c .count-number .ensures in
     record {
-      account = omega (arith, f .to, w .to-room .accounts, w .accounts .count);
-      booking = omega (arith, n, bank-count g, c .pre .space, w .to-room .bookings);
-      small = omega (arith, n, bank-count g, c .pre .space, w .bookings .capacity);
-    }
-
-pub link-requires-2 : need.link-requires-2
-link-requires-2 c κs =
-    let g = c .args .self .now in
-    let w = c .pre .whole in
-    let f = fit-here g (booked (c .args .b)) (c .pre .fit) in
-    let n = c .count-number .ensures in
-    record {
-      account = omega (arith, f .from, w .from-room .accounts, w .accounts .count);
-      booking = omega (arith, n, bank-count g, c .pre .space, w .from-room .bookings);
+      room = (g .accounts .count, (linkable-less (g .chains) _ _ _ _ (w .accounts .count) (omega (arith, n, bank-count g, c .pre .space)) (w .chains), f .from, f .to));
       small = omega (arith, n, bank-count g, c .pre .space, w .bookings .capacity);
     }
 
@@ -60,4 +48,4 @@ append-requires c κs =
 pub returns : need.returns
 returns c =
     made-booked-at (c .args .self .now) _ (c .count-number .result) (booked (c .args .b)) (c .pre .whole) (c .pre .fit) (c .pre .space) refl refl (c .count-number .ensures) (c .credit .ensures) (c .append .ensures)
-    (c .link .ensures) (c .link-2 .ensures) refl refl
+    (c .link .ensures) refl refl

@@ -7,4 +7,4 @@ use Rattle.ledger.proofs.Ledger.begin_day.Needs as need
 pub returns : need.returns
 returns c =
     let g = c .args .self .now in
-    made-turned g _ (c .pre .whole) (omega (arith, c .pre .today, bank-today g)) (omega arith) refl refl refl refl refl refl refl refl
+    made-turned g _ (c .pre .whole) (omega (arith, c .pre .today, bank-today g)) (omega arith) refl refl refl refl refl refl refl

@@ -10,4 +10,4 @@ add-self c = omega (arith, done-small (c .args .self .now) (c .pre .whole))
 pub returns : need.returns
 returns c =
     let g = c .args .self .now in
-    called g _ (c .pre .unit) (done-set g _ (g .done + 1) (c .pre .whole) (omega (arith, c .pre .unit)) refl refl refl refl refl refl refl refl)
+    called g _ (done-set g _ (g .done + 1) (c .pre .whole) (omega (arith, c .pre .unit)) refl refl refl refl refl refl refl)

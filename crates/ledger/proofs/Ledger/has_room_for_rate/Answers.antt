@@ -1,4 +1,4 @@
-use mathlib.Core.Path.{ap, sym, _∙_}
+use mathlib.Core.Path.{sym, _∙_}
 use Rattle.ledger.proofs.Bank.{bank-rates}
 use Rattle.ledger.proofs.Ledger.has_room_for_rate.Needs as need
 

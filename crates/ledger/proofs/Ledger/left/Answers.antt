@@ -2,14 +2,23 @@ use mathlib.Core.Path.{ap, sym, _∙_}
 use native.Mathlib.Omega.{arith}
 use Rattle.columns.specs.Links.{link-of}
 use Rattle.wire.specs.Booked.{booked}
-use Rattle.ledger.proofs.Walk.{way-out, left-is, walk-head, walk-start, walk-step, walk-less, walk-small, walk-end}
+use Rattle.columns.proofs.Chain.{linkable-less}
+use Rattle.ledger.proofs.Bank.{bank-accounts}
+use Rattle.ledger.proofs.Walk.{way-out, left-is, walk-room, walk-start, walk-step, walk-less, walk-small, walk-end}
 use Rattle.ledger.proofs.Ledger.left.Needs as need
 
-pub newest-next-requires : need.newest-next-requires
-newest-next-requires c κs = walk-head (way-out (c .args .self .now) (c .args .known-day) (c .args .account) (c .args .value-day) (c .pre .whole) (c .pre .there))
+pub newest-from-next-requires : need.newest-from-next-requires
+newest-from-next-requires c κs =
+    let g = c .args .self .now in
+    (g .bookings .capacity, linkable-less (g .chains) _ _ _ _ (omega (arith, c .pre .there, bank-accounts g, c .pre .whole .accounts .count)) (omega arith) (c .pre .whole .chains))
+
+pub before-from-next-requires : need.before-from-next-requires
+before-from-next-requires c κs =
+    let g = c .args .self .now in
+    (g .accounts .capacity, linkable-less (g .chains) _ _ _ _ (omega arith) (walk-room (c .loop-next .inv) (c .pre .whole .bookings .count) (ap link-of (c .in-Some .is))) (c .pre .whole .chains))
 
 pub loop-next-holds : need.loop-next-holds
-loop-next-holds c = walk-start (way-out (c .args .self .now) (c .args .known-day) (c .args .account) (c .args .value-day) (c .pre .whole) (c .pre .there)) _ (c .newest-next .ensures)
+loop-next-holds c = walk-start (way-out (c .args .self .now) (c .args .known-day) (c .args .account) (c .args .value-day) (c .pre .whole) (c .pre .there)) _ (c .newest-from-next .ensures)
 
 pub add-sum : need.add-sum
 add-sum c =
@@ -22,12 +31,12 @@ add-sum c =
 pub loop-next-less : need.loop-next-less
 loop-next-less c =
     walk-less (way-out (c .args .self .now) (c .args .known-day) (c .args .account) (c .args .value-day) (c .pre .whole) (c .pre .there)) (link-of (c .loop-next .next)) (c .in-Some .i) (c .loop-next .sum)
-    (ap link-of (c .in-Some .is)) (c .loop-next .inv) (link-of (c .before-next .result)) (c .before-next .ensures)
+    (ap link-of (c .in-Some .is)) (c .loop-next .inv) (link-of (c .before-from-next .result)) (c .before-from-next .ensures)
 
 pub loop-next-again : need.loop-next-again
 loop-next-again c =
     walk-step (way-out (c .args .self .now) (c .args .known-day) (c .args .account) (c .args .value-day) (c .pre .whole) (c .pre .there)) (link-of (c .loop-next .next)) (c .in-Some .i) (c .loop-next .sum)
-    (ap link-of (c .in-Some .is)) (c .loop-next .inv) (c .takes-from-sum .result) (booked (c .get .result)) (link-of (c .before-next .result)) (c .get .ensures) (c .takes-from-sum .ensures) (c .before-next .ensures)
+    (ap link-of (c .in-Some .is)) (c .loop-next .inv) (c .takes-from-sum .result) (booked (c .get .result)) (link-of (c .before-from-next .result)) (c .get .ensures) (c .takes-from-sum .ensures) (c .before-from-next .ensures)
 
 pub returns : need.returns
 returns c =

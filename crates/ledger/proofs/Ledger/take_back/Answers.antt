@@ -1,10 +1,9 @@
 use mathlib.Core.Path.{_≡_, refl, ap, sym, _∙_}
 use native.Mathlib.Omega.{arith}
-use Prim.Native.Nat.{_<_, suc}
-use lib.ListN.{getD}
+use Prim.Native.Nat.{_<_}
 use Rattle.bank.specs.Calls.{none-there, marked}
 use Rattle.wire.specs.Booked.{booked}
-use Rattle.columns.specs.Rows.{row, rows}
+use Rattle.columns.specs.Rows.{rows}
 use Rattle.columns.proofs.Running.{covers-came, covers-left, covers-ordered}
 use Rattle.ledger.proofs.Bank.{bank-count, bank-row}
 use Rattle.ledger.proofs.Effect.{parties, there, at, made-marked}
@@ -46,4 +45,4 @@ returns c =
     let u : i < g .bookings .count = omega (arith, c .pre .there, bank-count g) in
     let e = c .get-b .ensures in
     let z : b .back ≡ 0 = ap (λ x. x .back) (e ∙ sym (bank-row g i u)) ∙ c .pre .counts in
-    made-marked g _ i b (c .pre .whole) u e z refl refl (c .debit .ensures) (c .take-back .ensures) refl refl refl refl
+    made-marked g _ i b (c .pre .whole) u e z refl refl (c .debit .ensures) (c .take-back .ensures) refl refl refl

@@ -1,7 +1,7 @@
-use mathlib.Core.Path.{_≡_, refl, sym, ap, _∙_}
-use Prim.Native.Nat.{_+_, _≤_}
+use mathlib.Core.Path.{sym, ap, _∙_}
+use Prim.Native.Nat.{_+_}
 use native.Mathlib.Omega.{arith}
-use lib.ListN.{length, getD, take}
+use lib.ListN.{getD, take}
 use Rattle.std.proofs.shelf.Lists.{take-all}
 use Rattle.device.specs.Rows.{bytes-of, row, width, with-bytes}
 use Rattle.wire.proofs.Numbers.{narrow-at, put-more, put-none, width-more, width-within}

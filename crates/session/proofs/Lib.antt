@@ -1,0 +1,5 @@
+pub mod Replies
+pub mod Readable
+pub mod Steps
+pub mod Replays
+pub mod Openings
