@@ -1,15 +1,14 @@
 // Ends of days on which no month ends.
 ghost use mathlib.Core.Path.{_≡_};
-ghost use mathlib.Core.Bool.{true, false};
+ghost use mathlib.Core.Bool.{false};
 ghost use lib.Dec.{ltb};
 ghost use lib.ListN.{length};
-ghost use Prim.Native.Nat.{suc, _<_};
-ghost use Rattle.std.specs.declared.option.Option.the-variants.{Some, None};
+ghost use Prim.Native.Nat.{suc};
 ghost use Rattle.bank.specs.Builders.{month-starts};
 ghost use Rattle.bank.specs.Calls.{day-ends};
 ghost use Rattle.ledger.specs.Meaning.{bank};
 ghost use Rattle.ledger.specs.Whole.{Whole};
-ghost use Rattle.desk.specs.Desk.{Kept, Served, reply, took};
+ghost use Rattle.desk.specs.Desk.{Hands-on, Kept, Served, reply, took};
 use crate::refusal::Refusal;
 use ledger::Ledger;
 use wire::answer::Answer;
@@ -31,7 +30,7 @@ pub fn ends_month(ledger: &Ledger) -> bool
 // How many bookings there are when today has ended, if the book has a day more.
 fn endable(ledger: &Ledger) -> Option<usize>
     requires { ⌜ Whole (now ledger) ⌝ }
-    ensures { λ r. ⌜ elim r [ Some n ↦ (n ≡ length (bank (now (ledger .entry)) .bookings)) × (ltb (bank (now (ledger .entry)) .today) 3650 ≡ true) | None ↦ ltb (bank (now (ledger .entry)) .today) 3650 ≡ false ] ⌝ }
+    ensures { λ r. ⌜ Hands-on r (length (bank (now (ledger .entry)) .bookings)) (ltb (bank (now (ledger .entry)) .today) 3650) ⌝ }
 {
     if ledger.today() < LAST_DAY {
         Some(ledger.booking_count())

@@ -1,12 +1,9 @@
 // Taking back: a booking is marked, once, and never interest.
-ghost use mathlib.Core.Path.{_≡_};
-ghost use mathlib.Core.Bool.{true, false};
-ghost use Rattle.std.specs.declared.option.Option.the-variants.{Some, None};
 ghost use Rattle.bank.specs.Calls.{take-back};
 ghost use Rattle.bank.specs.Checks.{can-be-back};
 ghost use Rattle.ledger.specs.Meaning.{bank};
 ghost use Rattle.ledger.specs.Whole.{Whole};
-ghost use Rattle.desk.specs.Desk.{Kept, Served, reply, took};
+ghost use Rattle.desk.specs.Desk.{Hands-on, Kept, Served, reply, took};
 use crate::refusal::Refusal;
 use ledger::Ledger;
 use wire::answer::Answer;
@@ -14,7 +11,7 @@ use wire::answer::Answer;
 // A booking that can be taken back: it is there, was not taken back before, and is no interest.
 fn returnable(ledger: &Ledger, number: u64) -> Option<usize>
     requires { ⌜ Whole (now ledger) ⌝ }
-    ensures { λ r. ⌜ elim r [ Some k ↦ (k ≡ number) × (can-be-back (bank (now (ledger .entry))) number ≡ true) | None ↦ can-be-back (bank (now (ledger .entry))) number ≡ false ] ⌝ }
+    ensures { λ r. ⌜ Hands-on r number (can-be-back (bank (now (ledger .entry))) number) ⌝ }
 {
     let Some(booking) = ledger.find_booking(number) else {
         return None;

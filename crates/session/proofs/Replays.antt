@@ -123,12 +123,12 @@ row-taken s t bs i n base h m g at k =
     let l : Limits = limits (s .ledger) in
     let c : Call = row-call bs i in
     let b : bank (t .ledger) ≡ ran-by (book l) new-bank (base ++ rows-in call-row 32 i bs) =
-        g .stands base at .bank-is ∙ ap (λ (x : Limits). ran-by (book x) new-bank (base ++ rows-in call-row 32 i bs)) (g .limits-stay) in
+    g .stands base at .bank-is ∙ ap (λ (x : Limits). ran-by (book x) new-bank (base ++ rows-in call-row 32 i bs)) (g .limits-stay) in
     let xs : List Call = rows-at call-row n (drop 32 bs) in
     let q : takes (book l) first-call (changes l) (base ++ take i xs) (getD xs i day-ends) ≡ true = taken-at l base xs i day-ends (omega (arith, rows-many call-row n (drop 32 bs))) k in
     let e : getD xs i day-ends ≡ c = row-in call-row n i (drop 32 bs) day-ends h ∙ sym (row-in call-row 24 i (drop 32 bs) day-ends (omega arith)) in
     let f : take i xs ≡ rows-in call-row 32 i bs = rows-front call-row i n (drop 32 bs) (omega arith) in
     let z : (first-call c && changes l (ran-by (book l) new-bank (base ++ rows-in call-row 32 i bs)) c) ≡ true =
-        subst (λ (y : List Call). (first-call c && changes l (ran-by (book l) new-bank (base ++ y)) c) ≡ true) f
-        (subst (λ (y : Call). (first-call y && changes l (ran-by (book l) new-bank (base ++ take i xs)) y) ≡ true) e q) in
+    subst (λ (y : List Call). (first-call c && changes l (ran-by (book l) new-bank (base ++ y)) c) ≡ true) f
+    (subst (λ (y : Call). (first-call y && changes l (ran-by (book l) new-bank (base ++ take i xs)) y) ≡ true) e q) in
     ap (λ (x : Limits). plain c && changes x (bank (t .ledger)) c) (g .limits-stay) ∙ ap (λ (x : Bank). plain c && changes l x c) b ∙ plain-of (readable c) (plain c) _ z

@@ -153,7 +153,7 @@ module _ (s t : Session) (c : Call) (y : readable c ≡ true) (a : Told) (v : Se
       let f : first-call c ≡ true = first-is c y ∙ taken-plain (s .ledger) (t .ledger) c a v .0 in
       let x : a ≡ answer (limits (s .ledger)) (bank (s .ledger)) c = said s t c y a true v ∙ ap (λ (b : Bool). pick b (answer (limits (s .ledger)) (bank (s .ledger)) c) (not-yet c)) f in
       let b : now (t .journal .block) ≡ journal-block 1 (limits (s .ledger)) 0 (tail (s .journal) ++ (c ∷ [])) =
-          j .bytes ∙ (let u = o .bounds-are in let z = o .format-is in let q = o .epoch-is in cc) in
+      j .bytes ∙ (let u = o .bounds-are in let z = o .format-is in let q = o .epoch-is in cc) in
       p ∙ (cc) ∙ sym (taken-does (limits (s .ledger)) (memory s) c (test s t c y a true v))
 
 -- what a call leaves, all of it

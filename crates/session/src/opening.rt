@@ -2,9 +2,7 @@
 ghost use mathlib.Core.Path.{_≡_};
 ghost use mathlib.Core.Bool.{true, false};
 ghost use mathlib.Core.List.{List};
-
 ghost use lib.Dec.{ltb};
-
 ghost use Rattle.std.specs.declared.option.Option.the-variants.{Some, None};
 ghost use Rattle.device.specs.Device.{pick};
 ghost use Rattle.bank.specs.Calls.{Call as Told-call};
@@ -127,11 +125,13 @@ pub fn open<'a>(
     }
     let ledger = match desk::opening::open(limits, cents, numbers) {
         Ok(ledger) => ledger,
-        Err(Unopened {
-            misfit,
-            cents,
-            numbers,
-        }) => {
+        Err(
+            Unopened {
+                misfit,
+                cents,
+                numbers,
+            },
+        ) => {
             let place = misfit.place();
             return Err(Refused {
                 place,

@@ -29,8 +29,8 @@ returns-in-Err c =
     let o = c .reply .ensures in
     let y = row-readable (c .args .row .now) (λ i. omega (arith, c .typed .row i)) (omega arith) in
     let q : Called s t (read-call (c .args .row .now)) =
-        called-quiet s t _ (read-call (c .args .row .now)) (s .ledger) _ (c .pre) y (c .in-Err .ensures tt) (o .ledger) (o .answer) (o .roomy) (o .spoken)
-        (served-garbled (s .ledger) (c .in-Err .place) (c .pre .kept)) (o .journal) (o .stage) in
+    called-quiet s t _ (read-call (c .args .row .now)) (s .ledger) _ (c .pre) y (c .in-Err .ensures tt) (o .ledger) (o .answer) (o .roomy) (o .spoken)
+    (served-garbled (s .ledger) (c .in-Err .place) (c .pre .kept)) (o .journal) (o .stage) in
     record { state = q .state; acts = q .acts; ready = q .ready; limits = q .limits }
 
 pub reply-requires-2 : need.reply-requires-2
@@ -44,7 +44,7 @@ append-self-requires c κs =
     let e = c .reply-2 .ensures .journal in
     let d : c .take-outcome .result .changed ≡ true = c .if-outcome .taken in
     let v : Served-first (s .ledger) (c .take-outcome .last .ledger) (meant (c .in-Ok .call)) (answered (c .take-outcome .result .answer) []) true =
-        subst (λ (b : Bool). Served-first (s .ledger) (c .take-outcome .last .ledger) (meant (c .in-Ok .call)) (answered (c .take-outcome .result .answer) []) b) d (c .take-outcome .ensures) in
+    subst (λ (b : Bool). Served-first (s .ledger) (c .take-outcome .last .ledger) (meant (c .in-Ok .call)) (answered (c .take-outcome .result .answer) []) b) d (c .take-outcome .ensures) in
     record {
       sound = subst Sound (sym e) (c .pre .journal);
       room = subst (λ (j : Journal). j .count < 24 * j .blocks) (sym e) (has-place s _ _ _ (c .pre) v);
@@ -58,14 +58,14 @@ returns-then-outcome c =
     let o = c .reply-2 .ensures in
     let u = c .reply-2 .last .self in
     let t : Session =
-        record { ledger = u .ledger; journal = c .append-self .last .self; bytes = u .bytes; length = u .length; answer = u .answer; place = c .append-self .result; stage = Writing } in
+    record { ledger = u .ledger; journal = c .append-self .last .self; bytes = u .bytes; length = u .length; answer = u .answer; place = c .append-self .result; stage = Writing } in
     let d : c .take-outcome .result .changed ≡ true = c .if-outcome .taken in
     let j : Appended (s .journal) (t .journal) (meant (c .in-Ok .call)) =
-        subst (λ (x : Journal). Appended x (t .journal) (meant (c .in-Ok .call))) (o .journal) (c .append-self .ensures .appended) in
+    subst (λ (x : Journal). Appended x (t .journal) (meant (c .in-Ok .call))) (o .journal) (c .append-self .ensures .appended) in
     let at : t .place ≡ s .journal .count / 24 = c .append-self .ensures .block .0 ∙ ap (λ (x : Journal). x .count / 24) (o .journal) in
     let q : Called s t (read-call (c .args .row .now)) =
-        called-taken s t _ (read-call (c .args .row .now)) (c .take-outcome .last .ledger) _ (c .pre) y (c .in-Ok .ensures tt) (o .ledger) (o .answer) (o .roomy) (o .spoken)
-        (subst (λ (b : Bool). Served-first (s .ledger) (c .take-outcome .last .ledger) (meant (c .in-Ok .call)) (answered (c .take-outcome .result .answer) []) b) d (c .take-outcome .ensures)) j refl at in
+    called-taken s t _ (read-call (c .args .row .now)) (c .take-outcome .last .ledger) _ (c .pre) y (c .in-Ok .ensures tt) (o .ledger) (o .answer) (o .roomy) (o .spoken)
+    (subst (λ (b : Bool). Served-first (s .ledger) (c .take-outcome .last .ledger) (meant (c .in-Ok .call)) (answered (c .take-outcome .result .answer) []) b) d (c .take-outcome .ensures)) j refl at in
     record { state = q .state; acts = q .acts; ready = q .ready; limits = q .limits }
 
 pub returns-else-outcome : need.returns-else-outcome
@@ -76,6 +76,6 @@ returns-else-outcome c =
     let y = row-readable (c .args .row .now) (λ i. omega (arith, c .typed .row i)) (omega arith) in
     let d : c .take-outcome .result .changed ≡ false = c .if-outcome .left in
     let q : Called s t (read-call (c .args .row .now)) =
-        called-quiet s t _ (read-call (c .args .row .now)) (c .take-outcome .last .ledger) _ (c .pre) y (c .in-Ok .ensures tt) (o .ledger) (o .answer) (o .roomy) (o .spoken)
-        (subst (λ (b : Bool). Served-first (s .ledger) (c .take-outcome .last .ledger) (meant (c .in-Ok .call)) (answered (c .take-outcome .result .answer) []) b) d (c .take-outcome .ensures)) (o .journal) (o .stage) in
+    called-quiet s t _ (read-call (c .args .row .now)) (c .take-outcome .last .ledger) _ (c .pre) y (c .in-Ok .ensures tt) (o .ledger) (o .answer) (o .roomy) (o .spoken)
+    (subst (λ (b : Bool). Served-first (s .ledger) (c .take-outcome .last .ledger) (meant (c .in-Ok .call)) (answered (c .take-outcome .result .answer) []) b) d (c .take-outcome .ensures)) (o .journal) (o .stage) in
     record { state = q .state; acts = q .acts; ready = q .ready; limits = q .limits }
