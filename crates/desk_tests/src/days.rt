@@ -13,7 +13,6 @@ use desk::taking_back;
 use ledger::Ledger;
 use std::test::*;
 use wire::answer::Answer;
-use wire::booking::Booking;
 use wire::call::Call;
 
 // The answer of a call that was taken or turned away.
@@ -78,21 +77,21 @@ fn take_each(ledger: &mut Ledger, rows: &[Row]) -> Result<(), Fail>
     Ok(())
 }
 
-// A line of a statement: its amount, its value day, the day on which it was booked, and its mark.
-fn check_line(
-    line: Option<Booking>,
-    amount: u64,
-    value: u32,
-    on: u32,
-    back: Option<u32>,
-) -> Result<(), Fail> {
-    let Some(b) = line else {
-        return Err(Fail::new("no line"));
-    };
-    check_eq(b.amount, amount)?;
-    check_eq(b.value, value)?;
-    check_eq(b.on, on)?;
-    check_eq(b.back, back)
+// The lines of a statement: amount, value day, day on which it was booked, and mark.
+const LINES: [(u64, u32, u32, Option<u32>); 2] = [(400_000, 0, 1, Some(2)), (5_000, 2, 2, None)];
+
+// A statement hands out these lines, oldest first, and then no more.
+fn check_lines(ledger: &Ledger, mut statement: Statement) -> Result<(), Fail>
+    requires { ⌜ Kept (now ledger) ⌝ }
+{
+    for line in &LINES {
+        let Some(b) = statement.next_line(ledger) else {
+            return Err(Fail::new("no line"));
+        };
+        check_eq((b.amount, b.value, b.on, b.back), *line)?;
+    }
+    check_eq(statement.count(ledger), 0)?;
+    check(statement.next_line(ledger).is_none())
 }
 
 const DAYS: [Row; 48] = [
@@ -156,14 +155,10 @@ fn days_and_what_was_known() -> Result<(), Fail> {
         return Err(Fail::new("not opened"));
     };
     take_each(&mut ledger, &DAYS)?;
-    let Ok(mut lines) = Statement::begin(&ledger, 3, 1, 2) else {
-        return Err(Fail::new("turned away"));
-    };
-    check_line(lines.next_line(&ledger), 400_000, 0, 1, Some(2))?;
-    check_eq(lines.count(&ledger), 1)?;
-    check_line(lines.next_line(&ledger), 5_000, 2, 2, None)?;
-    check(lines.next_line(&ledger).is_none())?;
-    check_eq(lines.count(&ledger), 0)
+    match Statement::begin(&ledger, 3, 1, 2) {
+        Ok(statement) => check_lines(&ledger, statement),
+        Err(_) => Err(Fail::new("turned away")),
+    }
 }
 
 // Begins days of a book, month by month, with no interest booked.
@@ -178,6 +173,25 @@ fn pass_days(ledger: &mut Ledger, days: u32)
     }
 }
 
+// Days, and those of them that an order of day 61 may have as its value day.
+const VALUE_DAYS: [(u64, Option<u32>); 5] = [
+    (0, None),
+    (1, Some(1)),
+    (61, Some(61)),
+    (62, None),
+    (u64::MAX, None),
+];
+
+fn check_value_days(ledger: &Ledger) -> Result<(), Fail>
+    requires { ⌜ Whole (now ledger) ⌝ }
+{
+    for row in &VALUE_DAYS {
+        let (day, found) = *row;
+        check_eq(ledger.value_day(day), found)?;
+    }
+    Ok(())
+}
+
 #[test]
 fn value_days() -> Result<(), Fail> {
     let mut cents = [0u64; 64];
@@ -186,9 +200,5 @@ fn value_days() -> Result<(), Fail> {
         return Err(Fail::new("not opened"));
     };
     pass_days(&mut ledger, 61);
-    check_eq(ledger.value_day(0), None)?;
-    check_eq(ledger.value_day(1), Some(1))?;
-    check_eq(ledger.value_day(61), Some(61))?;
-    check_eq(ledger.value_day(62), None)?;
-    check_eq(ledger.value_day(u64::MAX), None)
+    check_value_days(&ledger)
 }

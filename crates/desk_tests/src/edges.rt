@@ -113,17 +113,26 @@ fn opens(accounts: u32, rates: u32, bookings: u32) -> Option<u64> {
     }
 }
 
+// Limits of accounts, rates and bookings, and the place at which they are refused, if they are.
+const OPENED: [(u32, u32, u32, Option<u64>); 11] = [
+    (4, 4, 4, None),
+    (5, 4, 4, None),
+    (5, 5, 4, Some(0)),
+    (6, 0, 0, None),
+    (6, 0, 1, Some(0)),
+    (1, 0, 0, Some(2)),
+    (2, 0, 0, None),
+    (4_097, 0, 0, Some(2)),
+    (4_096, 0, 0, Some(0)),
+    (2, 16_385, 0, Some(2)),
+    (2, 0, 1_000_001, Some(2)),
+];
+
 #[test]
 fn opened_books() -> Result<(), Fail> {
-    check_eq(opens(4, 4, 4), None)?;
-    check_eq(opens(5, 4, 4), None)?;
-    check_eq(opens(5, 5, 4), Some(0))?;
-    check_eq(opens(6, 0, 0), None)?;
-    check_eq(opens(6, 0, 1), Some(0))?;
-    check_eq(opens(1, 0, 0), Some(2))?;
-    check_eq(opens(2, 0, 0), None)?;
-    check_eq(opens(4_097, 0, 0), Some(2))?;
-    check_eq(opens(4_096, 0, 0), Some(0))?;
-    check_eq(opens(2, 16_385, 0), Some(2))?;
-    check_eq(opens(2, 0, 1_000_001), Some(2))
+    for row in &OPENED {
+        let (accounts, rates, bookings, place) = *row;
+        check_eq(opens(accounts, rates, bookings), place)?;
+    }
+    Ok(())
 }

@@ -1,5 +1,9 @@
 // The desk by examples: tables of calls and what they are answered.
-pub mod days;
-pub mod edges;
-pub mod rows;
-pub mod worked;
+#[cfg(test)]
+mod days;
+#[cfg(test)]
+mod edges;
+#[cfg(test)]
+mod rows;
+#[cfg(test)]
+mod worked;
