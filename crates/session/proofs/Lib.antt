@@ -3,3 +3,4 @@ pub mod Readable
 pub mod Steps
 pub mod Replays
 pub mod Openings
+pub mod Images

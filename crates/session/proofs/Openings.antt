@@ -65,7 +65,7 @@ first-rows s bs o =
     ∙ ap (λ (l : Limits). rows-of 1 l (s .journal .epoch) bs) (o .bounds-are)
     ∙ ap (λ (e : ℕ). rows-of 1 (limits (s .ledger)) e bs) (o .epoch-is)
 
-rows-so : (t : Bool) (m n : ℕ) → Some m ≡ pick t (Some n) None → m ≡ n
+pub rows-so : (t : Bool) (m n : ℕ) → Some m ≡ pick t (Some n) None → m ≡ n
 rows-so true m n e = cc
 rows-so false m n e = absurd (let z : _≡_ {A = ℕ} 0 1 = cc in omega arith)
 

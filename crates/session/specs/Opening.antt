@@ -16,7 +16,7 @@ use Rattle.device.specs.Journal.{gather}
 use Rattle.device.specs.Rows.{rows-in}
 use Rattle.bank.specs.Calls.{Call, Limits}
 use Rattle.bank.specs.Promise.{allowed, room}
-use Rattle.model.specs.First.{first-reading}
+use Rattle.model.specs.First.{first-program, first-reading}
 use Rattle.model.specs.JournalBlock.{call-row, calls-in}
 use Rattle.blocks.specs.Blocks.{device-of}
 use Rattle.columns.specs.Sizes.{cents-for, numbers-for}
@@ -26,7 +26,7 @@ use Rattle.session.specs.declared.Session.{Session}
 use Rattle.session.specs.declared.Stage.the-variants.{Idle}
 use Rattle.session.specs.declared.opening.Opening.{Opening}
 use Rattle.session.specs.declared.opening.Refused.{Refused}
-use Rattle.session.specs.Session.{At, Ready}
+use Rattle.session.specs.Session.{memory, left, At, Ready}
 use Rattle.session.specs.Replay.{Known-rows}
 
 -- is the lent memory enough: cells of 8 and of 4 bytes, one block, and the bytes of the longest answer
@@ -87,6 +87,7 @@ pub record Through (o p : Opening) (image : List ℕ) : Type 0 where
   pub limits-stay : limits (p .session .ledger) ≡ limits (o .session .ledger)
   pub blocks-stay : p .session .journal .blocks ≡ o .session .journal .blocks
   pub stage-stays : p .session .stage ≡ o .session .stage
+  pub within : o .session .journal .read ≤ o .session .journal .blocks → p .session .journal .read ≤ p .session .journal .blocks
   pub stands : o .session .journal .read ≡ 0 → At (o .session) [] → At (p .session) (gather (calls-in 1 (limits (o .session .ledger))) (device-of image) (p .session .journal .read))
 
 -- a session of which no block was read yet, and an image that reads as the calls ts under its limits
@@ -100,3 +101,9 @@ pub record Holds-calls (o : Opening) (image : List ℕ) (ts : List Call) : Type 
 abbrev pub Stood : Opening → Option Session → Type 0
 Stood o (Some s) = (s ≡ o .session) × (o .refused ≡ false) × (o .session .journal .blocks ≤ o .session .journal .read)
 Stood o None = (o .refused ≡ true) ⊎ (o .session .journal .read < o .session .journal .blocks)
+
+-- a session that stands is the program started on the device; it does not stand only where the device reads as no calls under its limits
+abbrev pub Recovered : Opening → List ℕ → Option Session → Type 0
+Recovered o image (Some s) =
+    Ready s × (limits (s .ledger) ≡ limits (o .session .ledger)) × (memory s ≡ first-program (limits (o .session .ledger)) .start (device-of image)) × (left s ≡ [])
+Recovered o image None = (ts : List Call) → Holds-calls o image ts → ⊥

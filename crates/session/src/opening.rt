@@ -12,7 +12,8 @@ ghost use Rattle.bank.specs.Promise.{allowed, room};
 ghost use Rattle.ledger.specs.Opened.{New};
 ghost use Rattle.desk.specs.Desk.{Kept};
 ghost use Rattle.columns.specs.Sizes.{limits-of};
-ghost use Rattle.session.specs.Opening.{New-opening, Opened, Opens, Advanced, Acceptable, Through, Holds-calls, Stood};
+ghost use Rattle.session.specs.Opening.{New-opening, Opened, Opens, Advanced, Acceptable, Through, Holds-calls, Stood, Recovered};
+ghost use Rattle.ledger.specs.Meaning.{limits};
 use crate::Session;
 use crate::Stage;
 use crate::reply::write_plain;
@@ -206,4 +207,16 @@ impl<'a> Opening<'a> {
         }
         Some(session)
     }
+}
+
+// The session of a device in lent bytes, where it holds a book with these limits, or none yet.
+pub fn recover<'a>(opening: Opening<'a>, image: &[u8]) -> Option<Session<'a>>
+    requires { ⌜ New-opening opening (limits (opening .session .ledger)) ⌝ }
+    ensures { λ r. ⌜ Recovered (opening .entry) (now (image .entry)) r ⌝ }
+{
+    let mut opening = opening;
+    if !opening.take_image(image) {
+        return None;
+    }
+    opening.stand()
 }
