@@ -1,34 +1,22 @@
 // keep DEVICE CALLS: keeps a book in a file of blocks. Each line of the file of calls is answered by a line of numbers, which is out before the next call begins.
 ghost use Rattle.session.specs.Session.{Ready};
-ghost use Rattle.session.specs.Opening.{Opens};
-use columns::limits::Limits;
 use session::Next;
 use session::Session;
-use session::opening::Opening;
 use session::opening::blocks_needed;
 use session::opening::open;
 use std::env;
 use std::error::AnyError;
 use std::fs;
+use store::BLOCK;
+use store::BYTES;
+use store::CENTS;
+use store::LIMITS;
+use store::NUMBERS;
 use store::Store;
+use store::read_all;
 use text::answer::write_answer_line;
 use text::line::LONGEST;
 use text::line::read_line;
-
-// What the book is opened with, and the memory that this asks for.
-const LIMITS: Limits = Limits {
-    accounts: 64,
-    rates: 256,
-    bookings: 512,
-};
-
-const CENTS: usize = 896;
-
-const NUMBERS: usize = 5_056;
-
-const BLOCK: usize = 512;
-
-const BYTES: usize = 28_681;
 
 // The most acts that a call has, and one more.
 const ACTS: u32 = 4;
@@ -37,26 +25,6 @@ const ACTS: u32 = 4;
 fn refuse(rt: &LibcRuntime, place: u64) -> Result<(), AnyError> {
     println!(rt, "0 3 {place}")?;
     Err("the book cannot be opened".into())
-}
-
-// Reads all blocks that the opening asks for; says whether none was refused.
-fn read_all(store: &mut Store, opening: &mut Opening) -> Result<bool, AnyError>
-    requires { ⌜ Opens (now opening) ⌝ }
-    ensures { λ _. ⌜ Opens (now (opening .exit)) ⌝ }
-{
-    let mut block = [0; BLOCK];
-    for _ in 0..blocks_needed(LIMITS) {
-        let Some(k) = opening.next_block() else {
-            return Ok(true);
-        };
-        if store.read(k, &mut block).is_err() {
-            return Ok(false);
-        }
-        if !opening.take_block(&block) {
-            return Ok(false);
-        }
-    }
-    Ok(true)
 }
 
 // Does what is to be done: a block is on the disk before anything is said.

@@ -1,5 +1,9 @@
-// A device in a file: blocks of 512 bytes, read and written in place.
-use blocks::BLOCK;
+// A device in a file, and the book that the programs keep on it.
+ghost use Rattle.session.specs.Opening.{Opens};
+use columns::limits::Limits;
+use session::opening::Opening;
+use session::opening::blocks_needed;
+use std::error::AnyError;
 use std::fs::File;
 use std::fs::OpenOptions;
 use std::io;
@@ -7,6 +11,21 @@ use std::io::Read;
 use std::io::Seek;
 use std::io::SeekFrom;
 use std::io::Write;
+
+// What a book is opened with, and the memory that this asks for: cells of 8 and of 4 bytes, a block, and the bytes of an answer.
+pub const LIMITS: Limits = Limits {
+    accounts: 64,
+    rates: 256,
+    bookings: 512,
+};
+
+pub const CENTS: usize = 896;
+
+pub const NUMBERS: usize = 5_056;
+
+pub const BLOCK: usize = 512;
+
+pub const BYTES: usize = 28_681;
 
 // A file of blocks that is open.
 #[derive(Drop)]
@@ -51,4 +70,24 @@ impl Store {
         self.file.write_all(block)?;
         self.file.sync_data()
     }
+}
+
+// Reads all blocks that the opening asks for; says whether none was refused.
+pub fn read_all(store: &mut Store, opening: &mut Opening) -> Result<bool, AnyError>
+    requires { ⌜ Opens (now opening) ⌝ }
+    ensures { λ _. ⌜ Opens (now (opening .exit)) ⌝ }
+{
+    let mut block = [0; BLOCK];
+    for _ in 0..blocks_needed(LIMITS) {
+        let Some(k) = opening.next_block() else {
+            return Ok(true);
+        };
+        if store.read(k, &mut block).is_err() {
+            return Ok(false);
+        }
+        if !opening.take_block(&block) {
+            return Ok(false);
+        }
+    }
+    Ok(true)
 }
