@@ -1,5 +1,8 @@
-// keep DEVICE CALLS: keeps a book in a file of blocks. Each line of the file of calls is answered by a line of numbers, which is out before the next call begins.
+// keep DEVICE CALLS [BUDGET [ROW]]: keeps a book in a file of blocks. Each line of the file of calls is answered by a line of numbers, which is out before the next call
+// begins. With a budget it stops after so many acts, as a cut does; the file ROW has a number for each block that was written since the last flush: 0 leaves it as it was, n
+// as the n-th write to it made it.
 ghost use Rattle.session.specs.Session.{Ready};
+use cut::keep_cut;
 use session::Next;
 use session::Session;
 use session::opening::blocks_needed;
@@ -17,6 +20,8 @@ use store::read_all;
 use text::answer::write_answer_line;
 use text::line::LONGEST;
 use text::line::read_line;
+
+mod cut;
 
 // The most acts that a call has, and one more.
 const ACTS: u32 = 4;
@@ -95,14 +100,46 @@ fn keep(rt: &LibcRuntime, device: &str, calls: &str) -> Result<(), AnyError> {
     answer_all(rt, &mut session, &mut store, calls)
 }
 
+// The numbers of a text, between blanks.
+fn numbers_in(rt: &LibcRuntime, text: &str) -> Result<Vec<u64>, AnyError> {
+    let mut numbers = Vec::new(rt.alloc());
+    for word in text.split_whitespace() {
+        numbers.push(word.parse::<u64>()?)?;
+    }
+    Ok(numbers)
+}
+
+// Keeps the book with a budget, and a row of numbers if there is a file of them.
+fn keep_until(rt: &LibcRuntime, device: &str, calls: &str, budget: &str, row: Option<String>) -> Result<(), AnyError> {
+    let budget = budget.parse::<u64>()?;
+    let numbers = match row {
+        Some(path) => {
+            let text = fs::read_to_string(rt, path.as_str())?;
+            numbers_in(rt, text.as_str())?
+        }
+        None => Vec::new(rt.alloc()),
+    };
+    let made = Store::open(rt, device, blocks_needed(LIMITS))?;
+    drop(made);
+    keep_cut(rt, device, calls, budget, numbers.as_slice())
+}
+
 fn run(rt: &LibcRuntime) -> Result<(), AnyError> {
     let mut words = env::args(rt)?;
     let _program = words.next();
-    let (Some(device), Some(calls), None) = (words.next(), words.next(), words.next()) else {
-        return Err("usage: keep DEVICE CALLS".into());
+    let (Some(device), Some(calls)) = (words.next(), words.next()) else {
+        return Err("usage: keep DEVICE CALLS [BUDGET [ROW]]".into());
     };
+    let budget = words.next();
+    let row = words.next();
+    if words.next().is_some() {
+        return Err("usage: keep DEVICE CALLS [BUDGET [ROW]]".into());
+    }
     let text = fs::read_to_string(rt, calls.as_str())?;
-    keep(rt, device.as_str(), text.as_str())
+    match budget {
+        Some(budget) => keep_until(rt, device.as_str(), text.as_str(), budget.as_str(), row),
+        None => keep(rt, device.as_str(), text.as_str()),
+    }
 }
 
 fn main(rt: LibcRuntime) -> Result<(), AnyError> {
