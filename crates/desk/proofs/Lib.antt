@@ -3,3 +3,7 @@ pub mod Serving
 pub mod Orders
 pub mod Openings
 pub mod Questions
+pub mod Settings
+pub mod Backs
+pub mod Endings
+pub mod Lines

@@ -68,12 +68,12 @@ module _ (g : Ledger) (k : Kept g) (v a b x : ℕ) where
         u₃ : Left apart-left
         u₃ = passing _ _ _ _ _ u₂ e₃
 
-        pub same-account : eqb a b ≡ true → Served g g (move v a b x) (refused 5 2) false
-        same-account e = away _ _ u₃ (ap not e) (omega arith)
+        pub same-account : not (eqb a b) ≡ false → Served g g (move v a b x) (refused 5 2) false
+        same-account e = away _ _ u₃ e (omega arith)
 
-        module _ (e₄ : eqb a b ≡ false) where
+        module _ (e₄ : not (eqb a b) ≡ true) where
           u₄ : Left early-left
-          u₄ = passing _ _ _ _ _ u₃ (ap not e₄)
+          u₄ = passing _ _ _ _ _ u₃ e₄
 
           pub bad-day : early-enough (bank g .today) v ≡ false → Served g g (move v a b x) (refused 6 0) false
           bad-day e = away _ _ u₄ e (omega arith)

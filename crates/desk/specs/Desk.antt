@@ -2,6 +2,9 @@
 use mathlib.Core.Path.{_≡_}
 use mathlib.Core.Bool.{Bool, true, false, _&&_}
 use mathlib.Core.List.{[]}
+use Prim.Native.Nat.{ℕ}
+use Rattle.std.specs.declared.option.Option.{Option}
+use Rattle.std.specs.declared.option.Option.the-variants.{Some, None}
 use Rattle.std.specs.declared.result.Result.{Result}
 use Rattle.std.specs.declared.result.Result.the-variants.{Ok, Err}
 use Rattle.bank.specs.Book.{pick}
@@ -31,6 +34,11 @@ pub record Kept (g : Ledger) : Type 0 where
 abbrev pub Opened-kept : Result Ledger Refused → Type 0
 Opened-kept (Ok g) = Kept g
 Opened-kept (Err e) = Unit {0}
+
+-- a check hands on a value where its test is passed
+abbrev pub Hands-on : Option ℕ → ℕ → Bool → Type 0
+Hands-on (Some y) x passes = (y ≡ x) × (passes ≡ true)
+Hands-on None x passes = passes ≡ false
 
 -- what is answered: to a call that is taken, and to one that is turned away
 abbrev pub reply : Result Reply Refusal → Answer

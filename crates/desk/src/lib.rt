@@ -13,11 +13,14 @@ use refusal::Refusal;
 use wire::answer::Answer;
 use wire::call::Call;
 
-mod account;
+pub mod account;
+pub mod day;
 pub mod opening;
-mod order;
+pub mod order;
 mod question;
 pub mod refusal;
+pub mod statement;
+pub mod taking_back;
 
 // The most cents that an order moves, that a limit has, and that orders bring to one account.
 const MOST: u64 = 100_000_000_000;

@@ -1,14 +1,12 @@
 // Orders: moving an amount from one account to another.
-ghost use mathlib.Core.Path.{_≡_};
-ghost use mathlib.Core.Bool.{true, false, _&&_};
+ghost use mathlib.Core.Bool.{not, _&&_};
 ghost use lib.Dec.{ltb, leb, eqb};
 ghost use lib.ListN.{length};
 ghost use Prim.Native.Nat.{_+_, _<_, _≤_};
-ghost use Rattle.std.specs.declared.option.Option.the-variants.{Some, None};
 ghost use Rattle.bank.specs.Calls.{move, enough, ordered};
 ghost use Rattle.ledger.specs.Meaning.{bank, limits};
 ghost use Rattle.ledger.specs.Whole.{Whole};
-ghost use Rattle.desk.specs.Desk.{Kept, Served, reply, took};
+ghost use Rattle.desk.specs.Desk.{Hands-on, Kept, Served, reply, took};
 use crate::MOST;
 use crate::refusal::Refusal;
 use ledger::Ledger;
@@ -18,7 +16,7 @@ use wire::booking::Kind;
 
 // An amount that can be ordered.
 fn orderable(cents: u64) -> Option<u64>
-    ensures { λ r. ⌜ elim r [ Some x ↦ (x ≡ cents) × ((leb 1 cents && leb cents 100000000000) ≡ true) | None ↦ (leb 1 cents && leb cents 100000000000) ≡ false ] ⌝ }
+    ensures { λ r. ⌜ Hands-on r cents (leb 1 cents && leb cents 100000000000) ⌝ }
 {
     if 1 <= cents && cents <= MOST {
         Some(cents)
@@ -29,7 +27,7 @@ fn orderable(cents: u64) -> Option<u64>
 
 // A payee that is another account than the payer.
 fn another(payer: u32, payee: u32) -> Option<u32>
-    ensures { λ r. ⌜ elim r [ Some b ↦ (b ≡ payee) × (eqb payer payee ≡ false) | None ↦ eqb payer payee ≡ true ] ⌝ }
+    ensures { λ r. ⌜ Hands-on r payee (not (eqb payer payee)) ⌝ }
 {
     if payer == payee { None } else { Some(payee) }
 }
@@ -39,7 +37,7 @@ fn payable(ledger: &Ledger, payer: u32, amount: u64) -> Option<u64>
     requires whole { ⌜ Whole (now ledger) ⌝ }
     requires there { ⌜ payer < length (bank (now ledger) .accounts) ⌝ }
     requires small { ⌜ amount ≤ 100000000000 ⌝ }
-    ensures { λ r. ⌜ elim r [ Some x ↦ (x ≡ amount) × (enough (bank (now (ledger .entry))) payer amount ≡ true) | None ↦ enough (bank (now (ledger .entry))) payer amount ≡ false ] ⌝ }
+    ensures { λ r. ⌜ Hands-on r amount (enough (bank (now (ledger .entry))) payer amount) ⌝ }
 {
     if ledger.enough(payer, amount) {
         Some(amount)
@@ -53,7 +51,7 @@ fn receivable(ledger: &Ledger, payee: u32, amount: u64) -> Option<u64>
     requires whole { ⌜ Whole (now ledger) ⌝ }
     requires there { ⌜ payee < length (bank (now ledger) .accounts) ⌝ }
     requires small { ⌜ amount ≤ 100000000000 ⌝ }
-    ensures { λ r. ⌜ elim r [ Some x ↦ (x ≡ amount) × ((ltb (length (bank (now (ledger .entry)) .bookings)) (limits (now (ledger .entry)) .bookings) && leb (ordered payee (bank (now (ledger .entry)) .bookings) + amount) 100000000000) ≡ true) | None ↦ (ltb (length (bank (now (ledger .entry)) .bookings)) (limits (now (ledger .entry)) .bookings) && leb (ordered payee (bank (now (ledger .entry)) .bookings) + amount) 100000000000) ≡ false ] ⌝ }
+    ensures { λ r. ⌜ Hands-on r amount (ltb (length (bank (now (ledger .entry)) .bookings)) (limits (now (ledger .entry)) .bookings) && leb (ordered payee (bank (now (ledger .entry)) .bookings) + amount) 100000000000) ⌝ }
 {
     if ledger.has_room_for_booking() && ledger.has_room_for_order(payee, amount) {
         Some(amount)
@@ -63,7 +61,7 @@ fn receivable(ledger: &Ledger, payee: u32, amount: u64) -> Option<u64>
 }
 
 // Moves an amount, of a value day, from one account to another.
-pub(crate) fn order(
+pub fn order(
     ledger: &mut Ledger,
     value: u64,
     from: u64,

@@ -1,24 +1,108 @@
-// keep DEVICE CALLS: answers each line of a file of calls, a line of numbers each, the first the call's byte.
+// keep DEVICE CALLS: keeps a book in a file of blocks. Each line of the file of calls is answered by a line of numbers, which is out before the next call begins.
+ghost use Rattle.session.specs.Session.{Ready};
+use session::Next;
+use session::Session;
+use session::opening::blocks_needed;
+use session::opening::open;
 use std::env;
 use std::error::AnyError;
 use std::fs;
+use store::BLOCK;
+use store::BYTES;
+use store::CENTS;
+use store::LIMITS;
+use store::NUMBERS;
+use store::Store;
+use store::read_all;
+use text::answer::write_answer_line;
+use text::line::LONGEST;
+use text::line::read_line;
 
-// What is answered to a line; so far only `taken` is there, and any other call cannot be read.
-fn answered(line: &str) -> &'static str {
-    if line == "8" { "1 0" } else { "0 1 0" }
+// The most acts that a call has, and one more.
+const ACTS: u32 = 4;
+
+// Prints that the book cannot be opened, by the place of what does not fit.
+fn refuse(rt: &LibcRuntime, place: u64) -> Result<(), AnyError> {
+    println!(rt, "0 3 {place}")?;
+    Err("the book cannot be opened".into())
+}
+
+// Does what is to be done: a block is on the disk before anything is said.
+fn perform(rt: &LibcRuntime, session: &mut Session, store: &mut Store) -> Result<(), AnyError>
+    requires { ⌜ Ready (now session) ⌝ }
+    ensures { λ _. ⌜ Ready (now (session .exit)) ⌝ }
+{
+    let mut place = 0;
+    for _ in 0..ACTS {
+        match session.next_act() {
+            Next::Write(k) => place = k,
+            Next::Flush => store.write(place, session.block())?,
+            Next::Say(n) => say(rt, session.answer_bytes(), n)?,
+            Next::Done => return Ok(()),
+        }
+    }
+    Ok(())
+}
+
+// Prints the answer that the first n bytes are.
+fn say(rt: &LibcRuntime, bytes: &[u8], n: usize) -> Result<(), AnyError> {
+    if n > bytes.len() {
+        return Err("an answer without bytes".into());
+    }
+    let line = write_answer_line(rt.alloc(), &bytes[0..n])?;
+    println!(rt, "{line}")?;
+    Ok(())
+}
+
+// Answers one line; one that stands for no row of bytes is as a row of none.
+fn answer(rt: &LibcRuntime, session: &mut Session, store: &mut Store, line: &str) -> Result<(), AnyError>
+    requires { ⌜ Ready (now session) ⌝ }
+    ensures { λ _. ⌜ Ready (now (session .exit)) ⌝ }
+{
+    let mut row = [0; LONGEST];
+    let n = read_line(line.as_bytes(), &mut row).unwrap_or(0);
+    session.call(&row[0..n.min(LONGEST)]);
+    perform(rt, session, store)
+}
+
+// Answers all lines.
+fn answer_all(rt: &LibcRuntime, session: &mut Session, store: &mut Store, calls: &str) -> Result<(), AnyError>
+    requires { ⌜ Ready (now session) ⌝ }
+{
+    for line in calls.lines() {
+        answer(rt, session, store, line)?;
+    }
+    Ok(())
+}
+
+// Keeps the book of a device.
+fn keep(rt: &LibcRuntime, device: &str, calls: &str) -> Result<(), AnyError> {
+    let mut store = Store::open(rt, device, blocks_needed(LIMITS))?;
+    let mut cents = [0; CENTS];
+    let mut numbers = [0; NUMBERS];
+    let mut block = [0; BLOCK];
+    let mut bytes = [0; BYTES];
+    let mut opening = match open(LIMITS, &mut cents, &mut numbers, &mut block, &mut bytes) {
+        Ok(opening) => opening,
+        Err(refused) => return refuse(rt, refused.place),
+    };
+    if !read_all(&mut store, &mut opening)? {
+        return refuse(rt, 1);
+    }
+    let Some(mut session) = opening.stand() else {
+        return refuse(rt, 1);
+    };
+    answer_all(rt, &mut session, &mut store, calls)
 }
 
 fn run(rt: &LibcRuntime) -> Result<(), AnyError> {
     let mut words = env::args(rt)?;
     let _program = words.next();
-    let (Some(_device), Some(calls), None) = (words.next(), words.next(), words.next()) else {
+    let (Some(device), Some(calls), None) = (words.next(), words.next(), words.next()) else {
         return Err("usage: keep DEVICE CALLS".into());
     };
     let text = fs::read_to_string(rt, calls.as_str())?;
-    for line in text.lines() {
-        println!(rt, "{}", answered(line))?;
-    }
-    Ok(())
+    keep(rt, device.as_str(), text.as_str())
 }
 
 fn main(rt: LibcRuntime) -> Result<(), AnyError> {

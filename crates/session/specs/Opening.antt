@@ -102,6 +102,11 @@ abbrev pub Stood : Opening → Option Session → Type 0
 Stood o (Some s) = (s ≡ o .session) × (o .refused ≡ false) × (o .session .journal .blocks ≤ o .session .journal .read)
 Stood o None = (o .refused ≡ true) ⊎ (o .session .journal .read < o .session .journal .blocks)
 
+-- a session that stands is ready for calls
+abbrev pub Ready-if : Option Session → Type 0
+Ready-if (Some s) = Ready s
+Ready-if None = Unit {0}
+
 -- a session that stands is the program started on the device; it does not stand only where the device reads as no calls under its limits
 abbrev pub Recovered : Opening → List ℕ → Option Session → Type 0
 Recovered o image (Some s) =

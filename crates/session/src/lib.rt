@@ -60,7 +60,7 @@ pub struct Session<'a> {
     stage: Stage,
 }
 
-impl Session<'_> {
+impl<'a> Session<'a> {
     // Puts an answer, which no bookings follow, into the lent bytes, to be said.
     fn reply(&mut self, answer: Answer)
         requires room { ⌜ 17 ≤ length (now (now self .bytes)) ⌝ }
@@ -105,6 +105,7 @@ impl Session<'_> {
         ensures done { λ r. ⌜ Told r (left (now (self .entry))) ⌝ }
         ensures said { λ r. ⌜ Said r (now (self .entry)) ⌝ }
         ensures same { λ _. ⌜ Same (now (self .entry)) (now (self .exit)) ⌝ }
+        ensures ready { λ _. ⌜ (Ready (now (self .entry)) → Ready (now (self .exit))) ⌝ }
     {
         match self.stage {
             Stage::Idle => Next::Done,
@@ -121,6 +122,13 @@ impl Session<'_> {
                 Next::Say(self.length)
             }
         }
+    }
+
+    // The book, to be looked at.
+    pub fn book(&self) -> &Ledger<'a>
+        ensures { λ r. ⌜ now r ≡ now (self .entry) .ledger ⌝ }
+    {
+        &self.ledger
     }
 
     // The bytes that a write is of.

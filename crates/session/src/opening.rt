@@ -12,7 +12,7 @@ ghost use Rattle.bank.specs.Promise.{allowed, room};
 ghost use Rattle.ledger.specs.Opened.{New};
 ghost use Rattle.desk.specs.Desk.{Kept};
 ghost use Rattle.columns.specs.Sizes.{limits-of};
-ghost use Rattle.session.specs.Opening.{New-opening, Opened, Opens, Advanced, Acceptable, Through, Holds-calls, Stood, Recovered};
+ghost use Rattle.session.specs.Opening.{New-opening, Opened, Opens, Advanced, Acceptable, Through, Holds-calls, Stood, Ready-if, Recovered};
 ghost use Rattle.ledger.specs.Meaning.{limits};
 use crate::Session;
 use crate::Stage;
@@ -196,7 +196,8 @@ impl<'a> Opening<'a> {
 
     // The session, where all blocks were read and none was refused.
     pub fn stand(self) -> Option<Session<'a>>
-        ensures { λ r. ⌜ Stood (self .entry) r ⌝ }
+        ensures stood { λ r. ⌜ Stood (self .entry) r ⌝ }
+        ensures ready { λ r. ⌜ (Opens (self .entry) → Ready-if r) ⌝ }
     {
         let Opening { session, refused } = self;
         if refused {

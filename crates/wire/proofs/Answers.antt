@@ -73,7 +73,7 @@ pick-few : (t : Bool) (b : Booking) (bs : List Booking) (n : ℕ) → length bs 
 pick-few true b bs n h = omega arith
 pick-few false b bs n h = omega arith
 
-few-lines : (a d e : ℕ) (bs : List Booking) → length (lines-of a d e bs) ≤ length bs
+pub few-lines : (a d e : ℕ) (bs : List Booking) → length (lines-of a d e bs) ≤ length bs
 unfolding lines-of
 few-lines a d e [] = omega arith
 few-lines a d e (b ∷ bs) = pick-few _ b (lines-of a d e bs) (length bs) (few-lines a d e bs)

@@ -1,0 +1,5 @@
+// Tests of lines.
+#[cfg(test)]
+mod answers;
+#[cfg(test)]
+mod lines;
