@@ -60,7 +60,12 @@ fn say(rt: &LibcRuntime, bytes: &[u8], n: usize) -> Result<(), AnyError> {
 }
 
 // Answers one line; one that stands for no row of bytes is as a row of none.
-fn answer(rt: &LibcRuntime, session: &mut Session, store: &mut Store, line: &str) -> Result<(), AnyError>
+fn answer(
+    rt: &LibcRuntime,
+    session: &mut Session,
+    store: &mut Store,
+    line: &str,
+) -> Result<(), AnyError>
     requires { ⌜ Ready (now session) ⌝ }
     ensures { λ _. ⌜ Ready (now (session .exit)) ⌝ }
 {
@@ -71,7 +76,12 @@ fn answer(rt: &LibcRuntime, session: &mut Session, store: &mut Store, line: &str
 }
 
 // Answers all lines.
-fn answer_all(rt: &LibcRuntime, session: &mut Session, store: &mut Store, calls: &str) -> Result<(), AnyError>
+fn answer_all(
+    rt: &LibcRuntime,
+    session: &mut Session,
+    store: &mut Store,
+    calls: &str,
+) -> Result<(), AnyError>
     requires { ⌜ Ready (now session) ⌝ }
 {
     for line in calls.lines() {
@@ -110,7 +120,13 @@ fn numbers_in(rt: &LibcRuntime, text: &str) -> Result<Vec<u64>, AnyError> {
 }
 
 // Keeps the book with a budget, and a row of numbers if there is a file of them.
-fn keep_until(rt: &LibcRuntime, device: &str, calls: &str, budget: &str, row: Option<String>) -> Result<(), AnyError> {
+fn keep_until(
+    rt: &LibcRuntime,
+    device: &str,
+    calls: &str,
+    budget: &str,
+    row: Option<String>,
+) -> Result<(), AnyError> {
     let budget = budget.parse::<u64>()?;
     let numbers = match row {
         Some(path) => {

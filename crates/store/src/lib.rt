@@ -56,16 +56,14 @@ impl Store {
 
     // Reads block k.
     pub fn read(&mut self, k: u64, block: &mut [u8]) -> io::Result<()> {
-        let _ = self
-            .file
+        let _ = self.file
             .seek(SeekFrom::Start(k.saturating_mul(BLOCK as u64)))?;
         self.file.read_exact(block)
     }
 
     // Writes block k, and has the disk keep it.
     pub fn write(&mut self, k: u64, block: &[u8]) -> io::Result<()> {
-        let _ = self
-            .file
+        let _ = self.file
             .seek(SeekFrom::Start(k.saturating_mul(BLOCK as u64)))?;
         self.file.write_all(block)?;
         self.file.sync_data()
