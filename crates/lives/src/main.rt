@@ -1,26 +1,15 @@
 // lives: plays lives of one book, one after another on one image in memory, each cut elsewhere, and prints what was heard in each and what the book answers afterwards.
-use columns::limits::Limits;
 use life::lent::Lent;
 use life::life;
 use std::error::AnyError;
+use store::BLOCK;
+use store::BYTES;
+use store::CENTS;
+use store::LIMITS;
+use store::NUMBERS;
 use text::answer::write_answer_line;
 use text::line::LONGEST;
 use text::line::read_line;
-
-// What the book is opened with, and the memory that this asks for.
-const LIMITS: Limits = Limits {
-    accounts: 64,
-    rates: 256,
-    bookings: 512,
-};
-
-const CENTS: usize = 896;
-
-const NUMBERS: usize = 5_056;
-
-const BLOCK: usize = 512;
-
-const BYTES: usize = 28_681;
 
 // The device: 272 blocks.
 const IMAGE: usize = 139_264;
