@@ -11,6 +11,7 @@ ghost use Rattle.bank.specs.Promise.{room as blocks-for, allowed, all-readable}
 ghost use Rattle.columns.specs.Sizes.{limits-of};
 ghost use Rattle.model.specs.Core.{Is-the-first-core-by, Through-every-life};
 ghost use Rattle.model.specs.First.{first-call, first-program, first-reading};
+ghost use Rattle.model.specs.Flushes.{First-flushes-exact};
 ghost use Rattle.ledger.specs.Meaning.{limits};
 ghost use Rattle.blocks.specs.Blocks.{device-of};
 ghost use Rattle.sim.specs.Held.{done};
@@ -207,6 +208,7 @@ pub fn life(
     ensures ended { λ r. ⌜ Ended (limits-of limits) (lent .entry) (now (calls .entry)) budget (now (row .entry)) (now (image .entry)) (now (said .entry)) (now (image .exit)) (now (said .exit)) r ⌝ }
     ensures core { λ _. ⌜ Is-the-first-core-by first-program first-reading ⌝ }
     ensures lives { λ _. ⌜ ((l : Bounds) → allowed l ≡ true → Through-every-life l (first-program l) first-call) ⌝ }
+    ensures flushes { λ _. ⌜ ((l : Bounds) → First-flushes-exact l) ⌝ }
 {
     let Lent {
         cents,

@@ -9,6 +9,7 @@ use Rattle.bank.specs.Calls.{Limits}
 use Rattle.bank.specs.Promise.{room}
 use Rattle.model.specs.First.{first-reading}
 use Rattle.model.proofs.First.{first-core-by, first-lives}
+use Rattle.model.proofs.Flushes.{first-flushes-exact}
 use Rattle.columns.specs.Sizes.{limits-of}
 use Rattle.blocks.specs.Blocks.{device-of}
 use Rattle.ledger.specs.Meaning.{limits}
@@ -24,6 +25,7 @@ returns-in-Err c =
       ended = (refl, refl, refused-opening (limits-of (c .args .limits)) (c .args .lent) (length (c .args .said .now)) (length (c .args .calls .now)) (c .args .image .now) (c .in-Err .refused .place) (e .0));
       core = first-core-by;
       lives = first-lives;
+      flushes = first-flushes-exact;
     }
 
 pub returns-then-not-is-room : need.returns-then-not-is-room
@@ -38,6 +40,7 @@ returns-then-not-is-room c =
       );
       core = first-core-by;
       lives = first-lives;
+      flushes = first-flushes-exact;
     }
 
 pub returns-then-blocks-in-blocks-needed : need.returns-then-blocks-in-blocks-needed
@@ -53,6 +56,7 @@ returns-then-blocks-in-blocks-needed c =
       );
       core = first-core-by;
       lives = first-lives;
+      flushes = first-flushes-exact;
     }
 
 pub returns-in-rest : need.returns-in-rest
@@ -72,6 +76,7 @@ returns-in-rest c =
       );
       core = first-core-by;
       lives = first-lives;
+      flushes = first-flushes-exact;
     }
 
 pub returns : need.returns
@@ -91,4 +96,5 @@ returns c =
       ended = (a .0, big, v, keeps-the-book l (c .args .image .now) (c .args .calls .now) (c .args .budget) (c .args .row .now) (c .args .said .now) image said h (a .1) (c .is-room .ensures .readable f) v);
       core = first-core-by;
       lives = first-lives;
+      flushes = first-flushes-exact;
     }
