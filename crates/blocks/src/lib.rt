@@ -1,4 +1,6 @@
 // Blocks of 512 bytes in a row of lent bytes: a block is a part that starts in its middle.
+#![tactic(auto)]
+
 ghost use Rattle.std.specs.Prelude.{◌≡◌, ◌+◌, ◌*◌, ◌/◌, ◌≤◌, length};
 ghost use Rattle.blocks.specs.Blocks.{block, put_block, device_of};
 

@@ -1,4 +1,6 @@
 // Taking a call, or turning it away: the refusal list in its order, then the change and its answer.
+#![tactic(auto)]
+
 ghost use Rattle.std.specs.Prelude.{◌≡◌, false, [], Some, None, Result};
 ghost use Rattle.bank.specs.Promise.{asks, plain};
 ghost use Rattle.wire.specs.Meaning.{meant};

@@ -1,4 +1,6 @@
 // The desk by examples: tables of calls and what they are answered.
+#![tactic(auto)]
+
 #[cfg(test)]
 mod days;
 #[cfg(test)]

@@ -1,4 +1,6 @@
 // The journal: blocks of calls that were taken, and how they are read again.
+#![tactic(auto)]
+
 ghost use Rattle.std.specs.Prelude.{◌≡◌, true};
 ghost use Rattle.bank.specs.Calls.{Limits as Bounds};
 ghost use Rattle.bank.specs.Promise.{allowed};

@@ -1,6 +1,8 @@
 // keep DEVICE CALLS [BUDGET [ROW]]: keeps a book in a file of blocks. Each line of the file of calls is answered by a line of numbers, which is out before the next call
 // begins. With a budget it stops after so many acts, as a cut does; the file ROW has a number for each block that was written since the last flush: 0 leaves it as it was, n
 // as the n-th write to it made it.
+#![tactic(auto)]
+
 ghost use Rattle.session.specs.Session.{Ready};
 
 use anyhow::anyhow;

@@ -1,4 +1,6 @@
 // The book of a bank in lent memory: opening, effects, checks in one step, balances and sums.
+#![tactic(auto)]
+
 use columns::accounts::Accounts;
 use columns::bookings::Bookings;
 use columns::chains::Chains;

@@ -1,4 +1,6 @@
 // A session's life on the simulated device: calls are carried out until a budget of acts is used up; then power is lost.
+#![tactic(auto)]
+
 ghost use Rattle.std.specs.Prelude.{◌≡◌, ℕ, ◌+◌, ◌-◌, ◌*◌, ◌/◌, ◌<◌, ◌≤◌, true, List, [], length, take};
 ghost use Rattle.device.specs.Device.{write as written, acts};
 ghost use Rattle.bank.specs.Calls.{Answer};

@@ -1,4 +1,6 @@
 // lives: plays lives of one book, one after another on one image in memory, each cut elsewhere, and prints what was heard in each and what the book answers afterwards.
+#![tactic(auto)]
+
 use anyhow::anyhow;
 use life::lent::Lent;
 use life::life;

@@ -1,4 +1,6 @@
 // A bank's core: its model programs on a device, and the promise that they keep, over every life and every cut.
+#![tactic(auto)]
+
 ghost use Rattle.std.specs.Prelude.{◌≡◌, true};
 ghost use Rattle.bank.specs.Calls.{Limits};
 ghost use Rattle.bank.specs.Promise.{allowed, readable};

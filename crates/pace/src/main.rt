@@ -1,4 +1,6 @@
 // pace ACCOUNTS BOOKINGS: opens a book of that size in memory, fills it through a session, and says how long each phase took.
+#![tactic(auto)]
+
 ghost use Rattle.std.specs.Prelude.{◌≡◌, ◌≤◌, Some, None};
 ghost use Rattle.session.specs.Session.{Ready};
 ghost use Rattle.session.specs.Opening.{Opens};

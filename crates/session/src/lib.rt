@@ -8,6 +8,8 @@
 // | idle | none | idle |
 //
 // A call that changes the book begins at writing, any other at saying.
+#![tactic(auto)]
+
 ghost use Rattle.std.specs.Prelude.{◌≡◌, ◌≤◌, [], ◌++◌, length};
 ghost use Rattle.wire.specs.Answered.{Follows};
 ghost use Rattle.model.specs.First.{first_program};

@@ -4,6 +4,8 @@
 // |---|---|
 // | account | its number, its limit, and for each of its rates the day since which it holds and the rate |
 // | booking | its number, booked on, value day, from, to, amount, kind, and 0 or the day after it was taken back |
+#![tactic(auto)]
+
 ghost use Rattle.ledger.specs.Meaning.{bank};
 ghost use Rattle.ledger.specs.Whole.{Whole};
 ghost use Rattle.std.specs.Prelude.{◌<◌, length};

@@ -1,4 +1,6 @@
 // A device in lent bytes that can lose power: an image, and apart from it the writes since the last flush.
+#![tactic(auto)]
+
 ghost use Rattle.std.specs.Prelude.{◌≡◌, ℕ, ◌+◌, ◌*◌, ◌/◌, ◌<◌, ◌≤◌, min, List, length, take, slice_index};
 ghost use Rattle.device.specs.Device.{Device, pick, put, write as written, flush as flushed};
 ghost use Rattle.device.specs.Plan.{put_all};

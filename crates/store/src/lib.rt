@@ -1,4 +1,6 @@
 // A device in a file, and the book that the programs keep on it.
+#![tactic(auto)]
+
 ghost use Rattle.session.specs.Opening.{Opens};
 
 use columns::limits::Limits;

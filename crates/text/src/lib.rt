@@ -1,4 +1,6 @@
 // Calls and answers as lines of text.
+#![tactic(auto)]
+
 pub mod answer;
 pub mod line;
 mod numbers;

@@ -1,4 +1,6 @@
 // Tests of lines.
+#![tactic(auto)]
+
 #[cfg(test)]
 mod answers;
 #[cfg(test)]

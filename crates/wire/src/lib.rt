@@ -1,4 +1,6 @@
 // Calls, answers, bookings and journal rows, as values and as bytes.
+#![tactic(auto)]
+
 pub mod answer;
 pub mod booking;
 pub mod bytes;
