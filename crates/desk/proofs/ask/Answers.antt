@@ -39,5 +39,5 @@ others (Statement a d e) b s t = refl
 others Sums b s t = absurd (s refl)
 others Taken b s t = absurd (t refl)
 
-pub returns-in-default : goal.returns-in-default
-returns-in-default c = let r = c.in-default in other_first c.args.ledger.now _ _ (others c.args.call r.not-Balance r.not-Sums r.not-Taken) refl
+pub returns-in_default : goal.returns-in_default
+returns-in_default c = let r = c.in_default in other_first c.args.ledger.now _ _ (others c.args.call r.not-Balance r.not-Sums r.not-Taken) refl

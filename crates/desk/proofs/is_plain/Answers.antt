@@ -42,5 +42,5 @@ later (Statement a d e) o m b s t = refl
 later Sums o m b s t = absurd (s refl)
 later Taken o m b s t = absurd (t refl)
 
-pub returns-in-default : goal.returns-in-default
-returns-in-default c = let r = c.in-default in later c.args.call r.not-Open r.not-Move r.not-Balance r.not-Sums r.not-Taken
+pub returns-in_default : goal.returns-in_default
+returns-in_default c = let r = c.in_default in later c.args.call r.not-Open r.not-Move r.not-Balance r.not-Sums r.not-Taken

@@ -7,18 +7,18 @@ use Rattle.wire.specs.declared.call.Call.TheVariants.{Open, Rate, Move, TakeBack
 use Rattle.desk.proofs.Serving.{first_served, first_asked, first_later}
 use Rattle.desk.proofs.take.Goals as goal
 
-pub returns-then-not-is-plain : goal.returns-then-not-is-plain
-returns-then-not-is-plain c = first_later c.args.ledger.now _ c.requires (sym c.is-plain.ensures ∙ c.if-not-is-plain.true)
+pub returns-then-not-is_plain : goal.returns-then-not-is_plain
+returns-then-not-is_plain c = first_later c.args.ledger.now _ c.requires (sym c.is_plain.ensures ∙ c.if-not-is_plain.true)
 
 pub returns-in-Open : goal.returns-in-Open
 returns-in-Open c =
-    let o = c.outcome-of.ensures in
-    first_served c.args.ledger.now _ _ _ _ _ _ _ (ap meant c.in-Open.is) (sym c.is-plain.ensures ∙ c.if-not-is-plain.false) o.answer_is o.changed_is c.open.ensures
+    let o = c.outcome_of.ensures in
+    first_served c.args.ledger.now _ _ _ _ _ _ _ (ap meant c.in-Open.is) (sym c.is_plain.ensures ∙ c.if-not-is_plain.false) o.answer_is o.changed_is c.open.ensures
 
 pub returns-in-Move : goal.returns-in-Move
 returns-in-Move c =
-    let o = c.outcome-of-in-Move.ensures in
-    first_served c.args.ledger.now _ _ _ _ _ _ _ (ap meant c.in-Move.is) (sym c.is-plain.ensures ∙ c.if-not-is-plain.false) o.answer_is o.changed_is c.order.ensures
+    let o = c.outcome_of-in-Move.ensures in
+    first_served c.args.ledger.now _ _ _ _ _ _ _ (ap meant c.in-Move.is) (sym c.is_plain.ensures ∙ c.if-not-is_plain.false) o.answer_is o.changed_is c.order.ensures
 
 -- what is left of the first stage are questions
 questions : (k : Call) → plain (meant k) ≡ true → ((x y : ℕ) → k ≡ Open x y → ⊥) → ((v a b x : ℕ) → k ≡ Move v a b x → ⊥) → (plain (meant k) && asks (meant k)) ≡ true
@@ -33,7 +33,7 @@ questions (Statement a d e) p o m = p
 questions Sums p o m = refl
 questions Taken p o m = refl
 
-pub returns-in-default : goal.returns-in-default
-returns-in-default c =
-    let p = sym c.is-plain.ensures ∙ c.if-not-is-plain.false in
-    first_asked c.args.ledger.now _ _ c.requires p (c.ask.ensures.asked (questions c.args.call p c.in-default.not-Open c.in-default.not-Move))
+pub returns-in_default : goal.returns-in_default
+returns-in_default c =
+    let p = sym c.is_plain.ensures ∙ c.if-not-is_plain.false in
+    first_asked c.args.ledger.now _ _ c.requires p (c.ask.ensures.asked (questions c.args.call p c.in_default.not-Open c.in_default.not-Move))

@@ -14,4 +14,4 @@ of_row bs i (Some c) h = (λ n d l. row_in call_row n i (drop 32 bs) d l ∙ ap 
 of_row bs i None h = h
 
 pub returns : goal.returns
-returns c = of_row c.args.block.now c.args.i c.read-row.result c.read-row.ensures
+returns c = of_row c.args.block.now c.args.i c.read_row.result c.read_row.ensures

@@ -2,8 +2,8 @@ use Rattle.std.proofs.Common.{◌+◌, refl, arith}
 use Rattle.ledger.proofs.Effect.{done_small, done_set, called}
 use Rattle.ledger.proofs.Ledger.count_call.Goals as goal
 
-pub overflow-add-self : goal.overflow-add-self
-overflow-add-self c = omega (arith, done_small c.args.self.now c.requires.whole)
+pub overflow_add-self : goal.overflow_add-self
+overflow_add-self c = omega (arith, done_small c.args.self.now c.requires.whole)
 
 pub returns : goal.returns
 returns c =

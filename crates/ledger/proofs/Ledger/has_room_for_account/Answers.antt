@@ -8,7 +8,7 @@ pub returns-then-count-capacity : goal.returns-then-count-capacity
 returns-then-count-capacity c =
     let g = c.args.self.now in
     let e : ltb (length (bank g).accounts) g.accounts.capacity ≡ true = lt-ltb _ _ (omega (arith, bank_accounts g, c.count.ensures, c.capacity.ensures)) in
-    rw e c.has-room-for-rate.ensures
+    rw e c.has_room_for_rate.ensures
 
 pub returns-else-count-capacity : goal.returns-else-count-capacity
 returns-else-count-capacity c =

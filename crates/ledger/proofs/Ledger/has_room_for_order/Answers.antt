@@ -3,8 +3,8 @@ use Rattle.ledger.proofs.Bank.{bank_accounts}
 use Rattle.ledger.proofs.Live.{ordered_cell, ordered_small}
 use Rattle.ledger.proofs.Ledger.has_room_for_order.Goals as goal
 
-pub overflow-add-result : goal.overflow-add-result
-overflow-add-result c =
+pub overflow_add-result : goal.overflow_add-result
+overflow_add-result c =
     let g = c.args.self.now in
     let a = c.args.account in
     let u : a < g.accounts.count = omega (arith, c.requires.there, bank_accounts g) in

@@ -8,15 +8,15 @@ use Rattle.ledger.proofs.Ledger.sums.Goals as goal
 pub loop-a-init : goal.loop-a-init
 loop-a-init c = (sym (all_in_none (bank c.args.self.now)), sym (all_out_none (bank c.args.self.now)))
 
-pub overflow-add-came : goal.overflow-add-came
-overflow-add-came c =
+pub overflow_add-came : goal.overflow_add-came
+overflow_add-came c =
     let g = c.args.self.now in
     let a = c.loop-a.a in
     let u : a < g.accounts.count = omega (arith, c.count-a-end.ensures) in
     omega (arith, ap (λ x. x.came) c.get-cells.ensures, all_in_more g c.requires a u, all_in_small g c.requires (a + 1) (omega (arith, u)))
 
-pub overflow-add-left : goal.overflow-add-left
-overflow-add-left c =
+pub overflow_add-left : goal.overflow_add-left
+overflow_add-left c =
     let g = c.args.self.now in
     let a = c.loop-a.a in
     let u : a < g.accounts.count = omega (arith, c.count-a-end.ensures) in

@@ -31,8 +31,8 @@ debit-requires c =
       ordered = covers_ordered g.accounts (rows g.bookings) i b y none_there w.accounts f.from f.to v q (λ n. omega (arith, n)) w.sums;
     }
 
-pub take-back-requires : goal.take-back-requires
-take-back-requires c =
+pub take_back-requires : goal.take_back-requires
+take_back-requires c =
     record { sound = c.requires.whole.bookings; there = omega (arith, c.requires.there, bank_count c.args.self.now); day = omega (arith, c.requires.whole.today) }
 
 pub returns : goal.returns
@@ -43,4 +43,4 @@ returns c =
     let u : i < g.bookings.count = omega (arith, c.requires.there, bank_count g) in
     let e = c.get-b.ensures in
     let z : b.back ≡ 0 = ap (λ x. x.back) (e ∙ sym (bank_row g i u)) ∙ c.requires.counts in
-    made_marked g _ i b c.requires.whole u e z refl refl c.debit.ensures c.take-back.ensures refl refl refl
+    made_marked g _ i b c.requires.whole u e z refl refl c.debit.ensures c.take_back.ensures refl refl refl

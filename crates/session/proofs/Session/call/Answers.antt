@@ -22,7 +22,7 @@ returns-in-Err c =
     let s = c.args.self.now in
     let t = c.reply.new.self in
     let o = c.reply.ensures in
-    let y = row_readable c.args.row.now (λ i. omega (arith, c.type-inv.row i)) (omega arith) in
+    let y = row_readable c.args.row.now (λ i. omega (arith, c.type_inv.row i)) (omega arith) in
     let q : Called s t (read_call_lem c.args.row.now) =
     called_quiet s t _ (read_call_lem c.args.row.now) s.ledger _ c.requires y c.in-Err.ensures o.ledger o.answer o.roomy o.spoken
     (served_garbled s.ledger c.in-Err.place c.requires.kept) o.journal o.stage in
@@ -48,7 +48,7 @@ append-self-requires c =
 
 pub returns-then-outcome : goal.returns-then-outcome
 returns-then-outcome c =
-    let y = row_readable c.args.row.now (λ i. omega (arith, c.type-inv.row i)) (omega arith) in
+    let y = row_readable c.args.row.now (λ i. omega (arith, c.type_inv.row i)) (omega arith) in
     let s = c.args.self.now in
     let o = c.reply-2.ensures in
     let u = c.reply-2.new.self in
@@ -68,7 +68,7 @@ returns-else-outcome c =
     let s = c.args.self.now in
     let t = c.reply-2.new.self in
     let o = c.reply-2.ensures in
-    let y = row_readable c.args.row.now (λ i. omega (arith, c.type-inv.row i)) (omega arith) in
+    let y = row_readable c.args.row.now (λ i. omega (arith, c.type_inv.row i)) (omega arith) in
     let d : c.take-outcome.result.changed ≡ false = c.if-outcome.false in
     let q : Called s t (read_call_lem c.args.row.now) =
     called_quiet s t _ (read_call_lem c.args.row.now) c.take-outcome.new.ledger _ c.requires y c.in-Ok.ensures o.ledger o.answer o.roomy o.spoken

@@ -8,8 +8,8 @@ pub loop-i-init : goal.loop-i-init
 unfolding rows_in rows_at
 loop-i-init c = grown_none c.args.self.now c.requires.ready
 
-pub replay-row-requires : goal.replay-row-requires
-replay-row-requires c =
+pub replay_row-requires : goal.replay_row-requires
+replay_row-requires c =
     let g = c.loop-i.invariant in
     let n = rows_length c.loop-i.i c.args.block.now in
     let p = g.count_is in
@@ -18,15 +18,15 @@ replay-row-requires c =
     let f = c.requires.few in
     record { ready = g.ready; whole = c.requires.whole; there = omega arith; room = omega arith }
 
-pub returns-then-not-replay-row : goal.returns-then-not-replay-row
-returns-then-not-replay-row c =
+pub returns-then-not-replay_row : goal.returns-then-not-replay_row
+returns-then-not-replay_row c =
     let g = c.loop-i.invariant in
     record {
       found = λ base at known taken.
-          absurd (true≢false (sym (c.replay-row.ensures.found (λ j h. known j (omega (arith, c.requires.few)))
-          (row_taken c.args.self.now c.loop-i.self c.args.block.now c.loop-i.i c.args.rows base (omega arith) c.requires.few g at taken)) ∙ c.if-not-replay-row.true));
+          absurd (true≢false (sym (c.replay_row.ensures.found (λ j h. known j (omega (arith, c.requires.few)))
+          (row_taken c.args.self.now c.loop-i.self c.args.block.now c.loop-i.i c.args.rows base (omega arith) c.requires.few g at taken)) ∙ c.if-not-replay_row.true));
       grown = λ e. absurd (true≢false (sym e));
     }
 
 pub loop-i-preserved : goal.loop-i-preserved
-loop-i-preserved c = grown_row c.args.self.now c.loop-i.self _ c.args.block.now c.loop-i.i (omega (arith, c.requires.few)) c.loop-i.invariant (c.replay-row.ensures.grown c.if-not-replay-row.false)
+loop-i-preserved c = grown_row c.args.self.now c.loop-i.self _ c.args.block.now c.loop-i.i (omega (arith, c.requires.few)) c.loop-i.invariant (c.replay_row.ensures.grown c.if-not-replay_row.false)

@@ -22,11 +22,11 @@ returns c =
                   bounds_are = ap limits_of b.1 ∙ sym n.limits_are;
                   format_is = b.0;
                   epoch_is = b.2;
-                  blocks_are = k.0 ∙ c.blocks-needed-blocks.ensures ∙ ap room (sym n.limits_are);
+                  blocks_are = k.0 ∙ c.blocks_needed-blocks.ensures ∙ ap room (sym n.limits_are);
                 };
             counted = let e = t.count in let z = ap size n.bank_is in omega arith;
-            roomy = omega (arith, c.write-plain-length.auto.bytes, c.requires.bytes);
-            spoken = c.write-plain-length.ensures;
+            roomy = omega (arith, c.write_plain-length.auto.bytes, c.requires.bytes);
+            spoken = c.write_plain-length.ensures;
           };
       limits_are = n.limits_are;
       fresh = record { bank_is = n.bank_is; stands = t };

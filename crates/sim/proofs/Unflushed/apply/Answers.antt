@@ -12,5 +12,5 @@ loop-i-init c = refl
 pub loop-i-preserved : goal.loop-i-preserved
 loop-i-preserved c =
     let u = c.args.self.now in
-    put_more (device_of c.args.image.now) (device_of c.loop-i.image) (device_of c.put-one.new.image) u.places.now u.blocks.now c.loop-i.i (omega (arith, c.requires.numbered))
-    c.put-one.ensures c.loop-i.invariant
+    put_more (device_of c.args.image.now) (device_of c.loop-i.image) (device_of c.put_one.new.image) u.places.now u.blocks.now c.loop-i.i (omega (arith, c.requires.numbered))
+    c.put_one.ensures c.loop-i.invariant

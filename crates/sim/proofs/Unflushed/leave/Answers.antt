@@ -14,9 +14,9 @@ pub loop-i-preserved : goal.loop-i-preserved
 loop-i-preserved c =
     let u = c.args.self.now in
     let there : c.loop-i.i < length u.places.now = omega (arith, c.requires.numbered) in
-    let step = left_more c.args.row.now u.places.now u.blocks.now u.count c.loop-i.i there (device_of c.args.image.now) (device_of c.loop-i.image) (device_of c.if-is-left.image) in
-    elim c.if-is-left.branch [
+    let step = left_more c.args.row.now u.places.now u.blocks.now u.count c.loop-i.i there (device_of c.args.image.now) (device_of c.loop-i.image) (device_of c.if-is_left.image) in
+    elim c.if-is_left.branch [
       | then-is-left w ↦
-          step true (sym w.if-is-left.true ∙ c.is-left.ensures) (λ k. ap (λ b. device_of b k) w.image-is ∙ ap (λ (d : Device). d k) w.put-one.ensures) c.loop-i.invariant
-      | else-is-left w ↦ step false (sym w.if-is-left.false ∙ c.is-left.ensures) (λ k. ap (λ b. device_of b k) w.image-is) c.loop-i.invariant
+          step true (sym w.if-is_left.true ∙ c.is_left.ensures) (λ k. ap (λ b. device_of b k) w.image-is ∙ ap (λ (d : Device). d k) w.put_one.ensures) c.loop-i.invariant
+      | else-is-left w ↦ step false (sym w.if-is_left.false ∙ c.is_left.ensures) (λ k. ap (λ b. device_of b k) w.image-is) c.loop-i.invariant
     ]

@@ -27,11 +27,11 @@ loop-i-preserved c =
     let t : take i places ++ (get_or ks i 0 ∷ []) ≡ take (i + 1) places = ap (λ y. take i places ++ (y ∷ [])) (q.1 ∙ sym p) ∙ sym (take_more places i 0 (omega arith)) in
     let first : before c.args.k ks ≡ take (i + 1) places ++ before c.args.k (drop (i + 1) ks) = b ∙ ap (λ front. front ++ before c.args.k (drop (i + 1) ks)) t in
     let m = different_more places i (omega arith) in
-    let seen : times (get_or places i 0) (take i places) ≡ c.times-written.result = ap (λ y. times y (take i places)) p ∙ sym c.times-written.ensures in
+    let seen : times (get_or places i 0) (take i places) ≡ c.times_written.result = ap (λ y. times y (take i places)) p ∙ sym c.times_written.ensures in
     let inv = c.loop-i.invariant.1 in
-    elim c.if-times-written-eq0.branch [
-      | then-times-written-eq0 w ↦ (first, m.0 (seen ∙ w.if-times-written-eq0.true) (w.others-is ∙ ap (λ n. n + 1) inv), omega (arith, w.others-is))
-      | else-times-written-eq0 w ↦ (first, m.1 (λ e. w.if-times-written-eq0.false (sym seen ∙ e)) (w.others-is ∙ inv), omega (arith, w.others-is))
+    elim c.if-times_written-eq0.branch [
+      | then-times-written-eq0 w ↦ (first, m.0 (seen ∙ w.if-times_written-eq0.true) (w.others-is ∙ ap (λ n. n + 1) inv), omega (arith, w.others-is))
+      | else-times-written-eq0 w ↦ (first, m.1 (λ e. w.if-times_written-eq0.false (sym seen ∙ e)) (w.others-is ∙ inv), omega (arith, w.others-is))
     ]
 
 pub returns-then-place-k : goal.returns-then-place-k

@@ -22,9 +22,9 @@ returns c =
     let numbered : count < length places = omega arith in
     let there : 512 * count + 512 ≤ length blocks = omega arith in
     let whole : length bs ≡ 512 = omega arith in
-    let inside : k < length image / 512 = omega (arith, c.blocks-in.ensures) in
-    let e : c.set-block.new.bytes ≡ put_block count bs blocks = c.set-block.ensures in
-    let len : length c.set-block.new.bytes ≡ length blocks = ap length e ∙ length_put count bs blocks there whole in
+    let inside : k < length image / 512 = omega (arith, c.blocks_in.ensures) in
+    let e : c.set_block.new.bytes ≡ put_block count bs blocks = c.set_block.ensures in
+    let len : length c.set_block.new.bytes ≡ length blocks = ap length e ∙ length_put count bs blocks there whole in
     let same : length (set places count k) ≡ length places = length-set places count k in
     record {
       taken = sym (and_from _ _ (lt-ltb count (min (length places) (length blocks / 512)) (omega arith)) (and_from _ _ (lt-ltb k (length image / 512) inside) (eq-eqb (length bs) 512 whole)));

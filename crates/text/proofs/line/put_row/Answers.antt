@@ -11,8 +11,8 @@ returns-then-numbers-gt255 c =
     let nine : length c.args.numbers.list ≡ 9 = omega arith in
     no_byte c.args.numbers.count c.args.numbers.list c.args.row.now c.args.row.now some (omega arith) c.if-numbers-gt255.true refl
 
-pub put-numbers-requires : goal.put-numbers-requires
-put-numbers-requires c =
+pub put_numbers-requires : goal.put_numbers-requires
+put_numbers-requires c =
     let k = c.args.numbers.count in
     let xs = c.args.numbers.list in
     let some : 0 < k = omega arith in
@@ -29,5 +29,5 @@ returns c =
     let xs = c.args.numbers.list in
     let some : 0 < k = omega arith in
     let nine : length xs ≡ 9 = omega arith in
-    row_put k xs c.args.row.now c.put-numbers.new.out some (omega arith) nine c.told-row c.if-numbers-gt255.false (take (k - 1 - 0) (replicate 8 8))
-    c.put-numbers.result (widths_fit k xs some (omega arith) nine) c.put-numbers.ensures.after c.put-numbers.ensures.end
+    row_put k xs c.args.row.now c.put_numbers.new.out some (omega arith) nine c.told-row c.if-numbers-gt255.false (take (k - 1 - 0) (replicate 8 8))
+    c.put_numbers.result (widths_fit k xs some (omega arith) nine) c.put_numbers.ensures.after c.put_numbers.ensures.end

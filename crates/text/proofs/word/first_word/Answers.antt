@@ -3,18 +3,18 @@ use Rattle.std.proofs.lemmas.List.{take_rest}
 use Rattle.text.proofs.Split.{first_left, none_left, one_left}
 use Rattle.text.proofs.word.first_word.Goals as goal
 
-pub returns-then-is-empty : goal.returns-then-is-empty
-returns-then-is-empty c =
+pub returns-then-is_empty : goal.returns-then-is_empty
+returns-then-is_empty c =
     none_left c.args.line.now (take (length c.args.line.now - c.blanks.result) (drop c.blanks.result c.args.line.now)) c.blanks.result
-    (take_rest c.args.line.now c.blanks.result) c.blanks.ensures.same (sym c.if-is-empty.ensures)
+    (take_rest c.args.line.now c.blanks.result) c.blanks.ensures.same (sym c.if-is_empty.ensures)
 
-pub word-len-requires : goal.word-len-requires
-word-len-requires c =
+pub word_len-requires : goal.word_len-requires
+word_len-requires c =
     first_left c.args.line.now (take (length c.args.line.now - c.blanks.result) (drop c.blanks.result c.args.line.now)) c.blanks.result
-    (take_rest c.args.line.now c.blanks.result) (sym c.if-is-empty.ensures) c.blanks.ensures.stops
+    (take_rest c.args.line.now c.blanks.result) (sym c.if-is_empty.ensures) c.blanks.ensures.stops
 
 pub returns : goal.returns
 returns c =
     one_left c.args.line.now (take (length c.args.line.now - c.blanks.result) (drop c.blanks.result c.args.line.now)) c.blanks.result
-    (take_rest c.args.line.now c.blanks.result) c.blanks.ensures.same _ _ c.word-len.result c.word-len.ensures.some c.word-len.ensures.within
-    c.word-len.ensures.word c.split-at.ensures.front c.split-at.ensures.back
+    (take_rest c.args.line.now c.blanks.result) c.blanks.ensures.same _ _ c.word_len.result c.word_len.ensures.some c.word_len.ensures.within
+    c.word_len.ensures.word c.split_at.ensures.front c.split_at.ensures.back

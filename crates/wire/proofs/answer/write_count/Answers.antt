@@ -11,7 +11,7 @@ returns-then-out-lt-HEAD c bs e = (refl, omega (arith, length_answer (lines bs),
 
 pub returns : goal.returns
 returns c bs e = (
-  c.put-form.ensures.after ∙ ap (λ n. with_bytes c.args.out.now 0 (form 3 (n ∷ []))) e,
-  omega (arith, c.put-form.ensures.end, length_form 3 (length bs ∷ [])),
+  c.put_form.ensures.after ∙ ap (λ n. with_bytes c.args.out.now 0 (form 3 (n ∷ []))) e,
+  omega (arith, c.put_form.ensures.end, length_form 3 (length bs ∷ [])),
   omega (arith, length_answer (lines bs), length_form 3 (length bs ∷ [])),
 )

@@ -4,5 +4,5 @@ use Rattle.wire.proofs.bytes.number_at.Goals as goal
 
 pub returns : goal.returns
 returns c =
-    c.from-le-bytes.ensures ∙ sym (number_8 _)
-    ∙ word_filled c.args.wide c.args.at c.args.bytes.now c.copy-from-slice.new.self c.requires.0 c.requires.1 c.copy-from-slice.ensures.after
+    c.from_le_bytes.ensures ∙ sym (number_8 _)
+    ∙ word_filled c.args.wide c.args.at c.args.bytes.now c.copy_from_slice.new.self c.requires.0 c.requires.1 c.copy_from_slice.ensures.after

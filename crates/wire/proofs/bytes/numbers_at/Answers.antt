@@ -8,19 +8,19 @@ pub loop-i-init : goal.loop-i-init
 unfolding numbers
 loop-i-init c = (omega arith, refl)
 
-pub number-at-requires : goal.number-at-requires
-number-at-requires c = (narrow_at c.args.widths.now c.loop-i.i c.requires.few.1, omega (arith, width_within c.args.widths.now c.loop-i.i, c.loop-i.invariant.0))
+pub number_at-requires : goal.number_at-requires
+number_at-requires c = (narrow_at c.args.widths.now c.loop-i.i c.requires.few.1, omega (arith, width_within c.args.widths.now c.loop-i.i, c.loop-i.invariant.0))
 
-pub overflow-add-end : goal.overflow-add-end
-overflow-add-end c = omega (arith, width_within c.args.widths.now c.loop-i.i, c.loop-i.invariant.0)
+pub overflow_add-end : goal.overflow_add-end
+overflow_add-end c = omega (arith, width_within c.args.widths.now c.loop-i.i, c.loop-i.invariant.0)
 
 pub loop-i-preserved : goal.loop-i-preserved
 loop-i-preserved c =
     let ks = c.args.widths.now in
     let i = c.loop-i.i in (
       omega (arith, width_more ks i, c.loop-i.invariant.0),
-      ap (λ x. set x i c.number-at.result) c.loop-i.invariant.1
-          ∙ read_more ks c.args.bytes.now c.args.at c.loop-i.end i c.number-at.result c.loop-i-test.true c.requires.few.0 c.loop-i.invariant.0 c.number-at.ensures,
+      ap (λ x. set x i c.number_at.result) c.loop-i.invariant.1
+          ∙ read_more ks c.args.bytes.now c.args.at c.loop-i.end i c.number_at.result c.loop-i-test.true c.requires.few.0 c.loop-i.invariant.0 c.number_at.ensures,
     )
 
 pub returns : goal.returns

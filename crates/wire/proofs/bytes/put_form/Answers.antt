@@ -5,6 +5,6 @@ use Rattle.wire.proofs.bytes.put_form.Goals as goal
 pub returns : goal.returns
 returns c =
     record {
-      after = form_put c.args.out.now c.put-numbers.new.out c.eights.result.now c.args.number c.args.ns.now (omega arith) c.put-numbers.ensures.after c.eights.ensures.is;
-      end = omega (arith, c.put-numbers.ensures.end, c.eights.ensures.few.1);
+      after = form_put c.args.out.now c.put_numbers.new.out c.eights.result.now c.args.number c.args.ns.now (omega arith) c.put_numbers.ensures.after c.eights.ensures.is;
+      end = omega (arith, c.put_numbers.ensures.end, c.eights.ensures.few.1);
     }

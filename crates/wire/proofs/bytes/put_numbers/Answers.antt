@@ -8,18 +8,18 @@ pub loop-i-init : goal.loop-i-init
 unfolding row
 loop-i-init c = (omega arith, sym (put_none c.args.out.now c.args.at))
 
-pub put-number-requires : goal.put-number-requires
-put-number-requires c = (narrow_at c.args.widths.now c.loop-i.i c.requires.few.1, omega (arith, width_within c.args.widths.now c.loop-i.i, c.loop-i.invariant.0))
+pub put_number-requires : goal.put_number-requires
+put_number-requires c = (narrow_at c.args.widths.now c.loop-i.i c.requires.few.1, omega (arith, width_within c.args.widths.now c.loop-i.i, c.loop-i.invariant.0))
 
-pub overflow-add-end : goal.overflow-add-end
-overflow-add-end c = omega (arith, width_within c.args.widths.now c.loop-i.i, c.loop-i.invariant.0)
+pub overflow_add-end : goal.overflow_add-end
+overflow_add-end c = omega (arith, width_within c.args.widths.now c.loop-i.i, c.loop-i.invariant.0)
 
 pub loop-i-preserved : goal.loop-i-preserved
 loop-i-preserved c =
     let ks = c.args.widths.now in
     let i = c.loop-i.i in (
       omega (arith, width_more ks i, c.loop-i.invariant.0),
-      c.put-number.ensures
+      c.put_number.ensures
           ∙ ap (λ x. with_bytes x c.loop-i.end (bytes_of (get_or ks i 0) (get_or c.args.ns.now i 0))) c.loop-i.invariant.1
           ∙ ap (λ x. with_bytes (with_bytes c.args.out.now c.args.at (row (take i ks) c.args.ns.now)) x (bytes_of (get_or ks i 0) (get_or c.args.ns.now i 0))) c.loop-i.invariant.0
           ∙ put_more c.args.out.now c.args.at ks c.args.ns.now i c.loop-i-test.true (omega arith) c.requires.room,

@@ -6,4 +6,4 @@ pub returns-then-out-ns : goal.returns-then-out-ns
 returns-then-out-ns c = (refl, omega (arith, length_form c.args.number c.args.ns.now))
 
 pub returns : goal.returns
-returns c = (c.put-form.ensures.after, c.put-form.ensures.end ∙ sym (length_form c.args.number c.args.ns.now), omega (arith, c.put-form.ensures.end))
+returns c = (c.put_form.ensures.after, c.put_form.ensures.end ∙ sym (length_form c.args.number c.args.ns.now), omega (arith, c.put_form.ensures.end))

@@ -5,5 +5,5 @@ use Rattle.wire.proofs.call.write_call.Goals as goal
 
 pub returns : goal.returns
 returns c =
-    subst (λ bs. Wrote c.args.out.now bs c.write-form.new.out c.write-form.result)
-    (call_written c.args.call c.number-number.result c.fields.result c.number-number.ensures c.fields.ensures) c.write-form.ensures
+    subst (λ bs. Wrote c.args.out.now bs c.write_form.new.out c.write_form.result)
+    (call_written c.args.call c.number-number.result c.fields.result c.number-number.ensures c.fields.ensures) c.write_form.ensures

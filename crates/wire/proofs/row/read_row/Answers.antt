@@ -4,11 +4,11 @@ use Rattle.wire.proofs.row.read_row.Goals as goal
 
 pub returns : goal.returns
 returns c =
-    let some : 1 ≤ c.number-at-kind.result = omega arith in
-    let few : c.number-at-kind.result ≤ 5 = omega arith in (
-      c.from-fields.ensures
-          ∙ row_read c.args.block.now c.widths.result.now c.numbers-at-numbers.result c.args.at c.number-at-kind.result (8 - length c.widths.result.now)
-          c.number-at-kind.ensures some few c.widths.ensures.is c.numbers-at-numbers.ensures,
+    let some : 1 ≤ c.number_at-kind.result = omega arith in
+    let few : c.number_at-kind.result ≤ 5 = omega arith in (
+      c.from_fields.ensures
+          ∙ row_read c.args.block.now c.widths.result.now c.numbers_at-numbers.result c.args.at c.number_at-kind.result (8 - length c.widths.result.now)
+          c.number_at-kind.ensures some few c.widths.ensures.is c.numbers_at-numbers.ensures,
       omega arith,
       omega arith,
     )

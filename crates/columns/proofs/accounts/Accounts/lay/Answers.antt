@@ -12,12 +12,12 @@ returns c =
         came = omega arith;
         left = omega arith;
         ordered = omega arith;
-        small = λ a u. omega (arith, c.clear-two.ensures a u);
+        small = λ a u. omega (arith, c.clear_two.ensures a u);
       };
       count = refl;
       capacity = refl;
-      limit = c.clear-two.ensures;
-      came = c.clear-two-2.ensures;
-      left = c.clear-two-3.ensures;
-      ordered = c.clear-two-4.ensures;
+      limit = c.clear_two.ensures;
+      came = c.clear_two-2.ensures;
+      left = c.clear_two-3.ensures;
+      ordered = c.clear_two-4.ensures;
     }

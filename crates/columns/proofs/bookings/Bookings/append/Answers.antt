@@ -13,6 +13,6 @@ returns c =
       to = refl;
       amount = refl;
       kind = ap (set s.kind.now s.count) c.number.ensures;
-      back = ap (set s.back.now s.count) c.mark-number.ensures;
+      back = ap (set s.back.now s.count) c.mark_number.ensures;
     })
     refl refl

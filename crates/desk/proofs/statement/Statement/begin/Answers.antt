@@ -8,15 +8,15 @@ use Rattle.desk.proofs.Serving.{asked_taken}
 use Rattle.desk.proofs.Lines.{lines_begin, no_account, passes}
 use Rattle.desk.proofs.statement.Statement.begin.Goals as goal
 
-pub returns-in-default : goal.returns-in-default
-returns-in-default c = no_account c.args.ledger.now c.requires c.args.account c.args.first c.args.last (le-ltb _ _ c.in-default.ensures)
+pub returns-in_default : goal.returns-in_default
+returns-in_default c = no_account c.args.ledger.now c.requires c.args.account c.args.first c.args.last (le-ltb _ _ c.in_default.ensures)
 
 pub returns : goal.returns
 unfolding asks
 returns c =
     let g = c.args.ledger.now in
-    let f = c.first-booked.ensures in
+    let f = c.first_booked.ensures in
     asked_taken g c.requires (statement c.args.account c.args.first c.args.last) _
     (passes g c.requires c.args.account c.args.first c.args.last (lt-ltb _ _ c.in-Some.ensures.1)) refl
-    (ap (λ (a : ℕ). lines (lines_of a c.args.first c.args.last (drop c.first-booked.result (bank g).bookings))) c.in-Some.ensures.0
+    (ap (λ (a : ℕ). lines (lines_of a c.args.first c.args.last (drop c.first_booked.result (bank g).bookings))) c.in-Some.ensures.0
     ∙ sym (lines_begin (bank g) c.args.account c.args.first c.args.last _ f.within f.before))

@@ -12,8 +12,8 @@ returns c =
     let xs : List ℕ = c.args.said.now in
     let ys : List ℕ = c.args.answer.now in
     let room : at + length ys ≤ length xs = omega (arith, c.requires.room, c.requires.some, c.requires.listens.inside) in
-    let e : put_mid at ((at + length ys) - at) xs c.copy-from-slice.new.self ≡ with_bytes xs at ys = part_written at (at + length ys) (length ys) _ ys xs refl refl c.copy-from-slice.ensures.after in
-    let n : length (put_mid at ((at + length ys) - at) xs c.copy-from-slice.new.self) ≡ length xs = ap length e ∙ with_length at ys xs room in
+    let e : put_mid at ((at + length ys) - at) xs c.copy_from_slice.new.self ≡ with_bytes xs at ys = part_written at (at + length ys) (length ys) _ ys xs refl refl c.copy_from_slice.ensures.after in
+    let n : length (put_mid at ((at + length ys) - at) xs c.copy_from_slice.new.self) ≡ length xs = ap length e ∙ with_length at ys xs room in
     record {
       listens = record { inside = omega (arith, n, room); counted = omega (arith, c.requires.listens.counted, c.requires.some) };
       spoken = ap (take (at + length ys)) e ∙ more_heard at ys xs room;
