@@ -3,7 +3,7 @@ use Rattle.std.proofs.lemmas.List.{length-take, get_or-take, take_more}
 use Rattle.sim.specs.Cut.{times, different, before}
 use Rattle.sim.proofs.Writes.{before_here, before_more, before_end, different_more}
 use Rattle.sim.proofs.Unflushed.turn_of.Goals as goal
-use Rattle.sim.proofs.Unflushed.turn_of.Goals.{then-times-written-eq0, else-times-written-eq0}
+use Rattle.sim.proofs.Unflushed.turn_of.Goals.{then-times_written-eq0, else-times_written-eq0}
 
 pub loop-i-init : goal.loop-i-init
 unfolding different
@@ -30,8 +30,8 @@ loop-i-preserved c =
     let seen : times (get_or places i 0) (take i places) ≡ c.times_written.result = ap (λ y. times y (take i places)) p ∙ sym c.times_written.ensures in
     let inv = c.loop-i.invariant.1 in
     elim c.if-times_written-eq0.branch [
-      | then-times-written-eq0 w ↦ (first, m.0 (seen ∙ w.if-times_written-eq0.true) (w.others-is ∙ ap (λ n. n + 1) inv), omega (arith, w.others-is))
-      | else-times-written-eq0 w ↦ (first, m.1 (λ e. w.if-times_written-eq0.false (sym seen ∙ e)) (w.others-is ∙ inv), omega (arith, w.others-is))
+      | then-times_written-eq0 w ↦ (first, m.0 (seen ∙ w.if-times_written-eq0.true) (w.others-is ∙ ap (λ n. n + 1) inv), omega (arith, w.others-is))
+      | else-times_written-eq0 w ↦ (first, m.1 (λ e. w.if-times_written-eq0.false (sym seen ∙ e)) (w.others-is ∙ inv), omega (arith, w.others-is))
     ]
 
 pub returns-then-place-k : goal.returns-then-place-k

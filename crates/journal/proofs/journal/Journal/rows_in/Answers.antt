@@ -29,5 +29,5 @@ returns c =
     let bs = c.args.bytes.now in
     let e = c.read_header-header.ensures in
     let b : headed j.format (bounds j) bs ≡ c.is_of.result = ap (λ (h : Head). same_book j.format (bounds j) h) (sym e) ∙ sym c.is_of.ensures in
-    c.rows_for_lem.ensures ∙ ap (λ (h : Head). rows_found h j.epoch (eqb j.count (24 * j.read))) e
+    c.rows_for.ensures ∙ ap (λ (h : Head). rows_found h j.epoch (eqb j.count (24 * j.read))) e
     ∙ found_rows j.format (bounds j) j.epoch j.blocks j.read j.count bs (omega arith) (omega arith) (b ∙ c.if-not-is_of.false)
