@@ -8,6 +8,7 @@ use desk::statement::Statement;
 use desk::{account, ask, day, opening, order, taking_back};
 use ledger::Ledger;
 use std::process::Abort;
+use std::test::Fail;
 use wire::answer::Answer;
 use wire::call::Call;
 

@@ -1,6 +1,7 @@
 // Each refusal, and the last call before it that is taken.
 use crate::rows::*;
 use desk::opening;
+use std::test::Fail;
 
 // The most cents of an order, of a limit, and of all orders to one account.
 const MOST: u64 = 100_000_000_000;

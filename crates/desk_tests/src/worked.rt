@@ -1,5 +1,6 @@
 // The worked book: its first four rows.
 use crate::rows::*;
+use std::test::Fail;
 
 const FIRST_ROWS: [Row; 6] = [
     (Ask::Open, [0, 0, 0, 0], [1, 2, 0]),

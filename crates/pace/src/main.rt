@@ -143,7 +143,7 @@ fn measure<'a>(
 {
     let start = Instant::now(rt)?;
     let Ok(opening) = open(limits, cents, numbers, block, bytes) else {
-        return Err(USAGE.into());
+        return Err(anyhow!(USAGE));
     };
     let Some(session) = stand(opening, empty) else {
         return Err(anyhow!("an empty device was refused"));
@@ -159,13 +159,13 @@ fn limits_given(rt: &HostRuntime) -> anyhow::Result<Limits> {
     let mut words = env::args(rt)?;
     let _program = words.next();
     let (Some(accounts), Some(bookings), None) = (words.next(), words.next(), words.next()) else {
-        return Err(USAGE.into());
+        return Err(anyhow!(USAGE));
     };
     let (Ok(accounts), Ok(bookings)) = (
         accounts.as_str().parse::<u32>(),
         bookings.as_str().parse::<u32>(),
     ) else {
-        return Err(USAGE.into());
+        return Err(anyhow!(USAGE));
     };
     Ok(Limits {
         accounts,
@@ -177,7 +177,7 @@ fn limits_given(rt: &HostRuntime) -> anyhow::Result<Limits> {
 fn run(rt: &HostRuntime) -> anyhow::Result<()> {
     let limits = limits_given(rt)?;
     if limits.accounts < 4 || !limits.are_allowed() {
-        return Err(USAGE.into());
+        return Err(anyhow!(USAGE));
     }
     let heap = rt.alloc();
     let mut cents = vec![in heap; 0u64; limits.cents_needed()]?;

@@ -1,6 +1,9 @@
 // Calls, answers and journal rows by examples: tables of bytes, good and bad.
 #![tactic(auto)]
 
-pub mod answers;
-pub mod calls;
-pub mod rows;
+#[cfg(test)]
+mod answers;
+#[cfg(test)]
+mod calls;
+#[cfg(test)]
+mod rows;

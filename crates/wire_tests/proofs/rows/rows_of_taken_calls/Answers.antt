@@ -7,12 +7,12 @@ use Rattle.wire_tests.proofs.rows.rows_of_taken_calls.Goals as goal
 -- each has a row
 pub written-requires : goal.written-requires
 unfolding asks fits_in call_kind call_numbers call_widths
-written-requires c = refl
+written-requires g c = refl
 
 pub written-requires-2 : goal.written-requires-2
 unfolding asks fits_in call_kind call_numbers call_widths
-written-requires-2 c = refl
+written-requires-2 g c = refl
 
 pub written-block-requires : goal.written-block-requires
 unfolding asks fits_in call_kind call_numbers call_widths
-written-block-requires c = refl
+written-block-requires g c = refl
