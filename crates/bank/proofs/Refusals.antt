@@ -1,5 +1,5 @@
 -- Going through the checks of a call in their order: it is turned away by the first that fails, or it is taken when all have passed.
-use Rattle.std.proofs.Common.{◌≡◌, ℕ, suc, ◌<◌, ◌≤◌, Bool, true, false, not, ◌&&◌, eqb, List, [], ◌∷◌, sym, refl, ap, ◌∙◌, arith}
+use Rattle.std.proofs.Common.{◌≡◌, ℕ, ◌<◌, ◌≤◌, Bool, true, false, not, ◌&&◌, eqb, List, [], ◌∷◌, refl, ap, ◌∙◌, arith}
 use Rattle.std.proofs.lemmas.Bool.{eq-eqb, ne_eqb}
 use Rattle.bank.specs.Book.{pick, Bank}
 use Rattle.bank.specs.Calls.{Call, refused, Limits, turned, place, changed, after, told, answer}

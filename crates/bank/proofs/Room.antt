@@ -1,15 +1,15 @@
 -- What decides refusal 10.
-use Rattle.std.proofs.Common.{◌≡◌, ℕ, zero, suc, ◌+◌, ◌-◌, ◌%◌, ◌<◌, ◌≤◌, Bool, true, false, ◌&&◌, eqb, ltb, leb, ◌⊎◌, List, [], ◌∷◌, ◌++◌, length, get_or, set, sym, refl, ap, ◌∙◌, subst, inl, inr, arith, length-append, length-set}
+use Rattle.std.proofs.Common.{◌≡◌, ℕ, suc, ◌%◌, ◌<◌, ◌≤◌, Bool, true, false, ◌&&◌, eqb, ltb, leb, List, [], ◌∷◌, ◌++◌, length, get_or, set, sym, refl, ap, ◌∙◌, subst, inl, inr, arith, length-append, length-set}
 use Rattle.std.proofs.lemmas.Bool.{le-leb, ltb-true, cases_eq, not-true}
-use Rattle.bank.specs.Book.{pick, Rate, Account, Booking, Bank, interests}
-use Rattle.bank.specs.Calls.{Call, opens, rated, move, take_back, day_ends, balance, statement, sums, taken_so_far, garbled, Limits, fits, rates_in, orders_fit, ordered, turned_by, changed, ended, marked, none_there, limit_of, ran, new_bank}
-use Rattle.bank.specs.Bounds.{orders_left, at_dawn}
+use Rattle.bank.specs.Book.{Account, Bank}
+use Rattle.bank.specs.Calls.{Call, opens, rated, move, take_back, day_ends, balance, statement, sums, taken_so_far, garbled, Limits, fits, rates_in, orders_fit, turned_by, changed, ended, marked, none_there, limit_of}
+use Rattle.bank.specs.Bounds.{orders_left}
 use Rattle.bank.specs.Checks.{Check, check, fails, fails_at, own_checks, checks}
 use Rattle.bank.specs.Room.{ReachedUnder, has_room, room_checks, RoomDecides}
 use Rattle.bank.proofs.Checks.{by_checks, passed}
 use Rattle.bank.proofs.Tally.{pick_both}
 use Rattle.bank.proofs.Filled.{only_orders_fill, always_fits}
-use Rattle.bank.proofs.Limited.{Fits, fits_parts, pick_zero}
+use Rattle.bank.proofs.Limited.{fits_parts, pick_zero}
 use Rattle.bank.proofs.Count.{rates-++, rates_set}
 
 -- the test of a book by its parts

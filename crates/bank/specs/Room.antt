@@ -1,5 +1,5 @@
 -- Whether there is room for what a call makes of a book: what decides refusal 10. Assumes nothing: these are definitions.
-use Rattle.std.specs.Prelude.{◌≡◌, ℕ, ◌+◌, ◌≤◌, Bool, true, ◌&&◌, List, [], ◌∷◌, ◌++◌, length, nat_le, nat_lt}
+use Rattle.std.specs.Prelude.{◌≡◌, ◌+◌, ◌≤◌, Bool, true, ◌&&◌, List, [], ◌∷◌, ◌++◌, length, nat_le, nat_lt}
 use Rattle.bank.specs.Book.{Bank}
 use Rattle.bank.specs.Calls.{Call, opens, rated, move, take_back, day_ends, balance, statement, sums, taken_so_far, garbled, Limits, fits, rates_in, ordered, turned_by, turned, place, changed, ended, ran, new_bank}
 use Rattle.bank.specs.Checks.{Check, check, fails, fails_at, own_checks}

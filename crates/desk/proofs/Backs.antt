@@ -1,10 +1,10 @@
 -- The checks of taking back, in their order.
-use Rattle.std.proofs.Common.{◌≡◌, ℕ, ◌<◌, Bool, true, false, ◌&&◌, eqb, ltb, List, [], ◌∷◌, length, refl, arith}
+use Rattle.std.proofs.Common.{◌≡◌, ℕ, ◌<◌, true, false, ◌&&◌, eqb, ltb, [], ◌∷◌, length, refl, arith}
 use Rattle.std.proofs.lemmas.Bool.{and_parts, ltb-true, eqb-true}
 use Rattle.bank.specs.Book.{Bank}
 use Rattle.bank.specs.Builders.{booking_at, goes_back}
 use Rattle.bank.specs.Calls.{take_back, refused}
-use Rattle.bank.specs.Checks.{Check, check, can_be_back, own_checks}
+use Rattle.bank.specs.Checks.{check, can_be_back, own_checks}
 use Rattle.bank.specs.Room.{has_room}
 use Rattle.bank.proofs.Refusals.{Taken, Unchecked, passing, failing, all_passed}
 use Rattle.ledger.specs.Meaning.{bank, limits}

@@ -1,13 +1,10 @@
 -- A new book is one that calls brought about: none did.
-use Rattle.std.proofs.Common.{◌≡◌, ℕ, Bool, true, false, ◌&&◌, List, [], length, Some, None, Ok, Err, Option, Result, sym, refl, ap, ◌∙◌, subst, arith}
+use Rattle.std.proofs.Common.{◌≡◌, ℕ, Bool, true, false, List, [], Some, None, Ok, Err, Result, refl, ap, ◌∙◌, arith}
 use Rattle.bank.specs.Book.{pick}
 use Rattle.bank.specs.Calls.{Limits}
 use Rattle.bank.specs.Promise.{allowed}
 use Rattle.device.specs.Book.{ran_by}
-use Rattle.model.specs.Register.{Register, register_book, new_register}
-use Rattle.model.specs.Whole.{ReachedRegister}
-use Rattle.ledger.specs.Meaning.{bank, rates_set, register, limits}
-use Rattle.ledger.specs.Opened.{misfit, New, Opened}
+use Rattle.ledger.specs.Opened.{New, Opened}
 use Rattle.ledger.specs.declared.Ledger.{Ledger}
 use Rattle.ledger.specs.declared.opening.Misfit.{Misfit}
 use Rattle.ledger.specs.declared.opening.Refused.{Refused}

@@ -1,11 +1,11 @@
 -- The checks of a day's end, in their order, where no month ends.
-use Rattle.std.proofs.Common.{◌≡◌, ℕ, suc, ◌%◌, ◌<◌, ◌≤◌, Bool, true, false, ◌&&◌, eqb, ltb, leb, List, [], ◌∷◌, ◌++◌, map, length, sym, refl, ap, ◌∙◌, arith}
+use Rattle.std.proofs.Common.{◌≡◌, ℕ, suc, ◌≤◌, Bool, true, false, ◌&&◌, ltb, leb, List, [], ◌∷◌, length, refl, ap, arith}
 use Rattle.std.proofs.lemmas.Bool.{le-leb, and_left, and_from}
-use Rattle.bank.specs.Book.{pick, Booking, Bank, interests}
-use Rattle.bank.specs.Builders.{month_starts, with_today, bearing}
+use Rattle.bank.specs.Book.{Booking, Bank}
+use Rattle.bank.specs.Builders.{month_starts}
 use Rattle.bank.specs.Calls.{day_ends, ended, number, refused, told}
-use Rattle.bank.specs.Checks.{Check, check, own_checks}
-use Rattle.bank.specs.Effects.{Effect, turns, books, effects}
+use Rattle.bank.specs.Checks.{check, own_checks}
+use Rattle.bank.specs.Effects.{turns, effects}
 use Rattle.bank.specs.Room.{has_room}
 use Rattle.bank.proofs.Refusals.{Taken, Unchecked, passing, failing, all_passed}
 use Rattle.ledger.specs.Meaning.{bank, limits}

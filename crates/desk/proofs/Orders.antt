@@ -1,8 +1,7 @@
 -- The checks of an order, in their order.
-use Rattle.std.proofs.Common.{◌≡◌, ℕ, ◌+◌, ◌<◌, ◌≤◌, Bool, true, false, not, ◌&&◌, eqb, ltb, leb, List, [], ◌∷◌, ◌++◌, length, sym, refl, ap, ◌∙◌, arith}
-use Rattle.bank.specs.Book.{Bank}
+use Rattle.std.proofs.Common.{◌≡◌, ℕ, ◌+◌, ◌<◌, true, false, not, ◌&&◌, eqb, ltb, leb, List, [], ◌∷◌, length, arith}
 use Rattle.bank.specs.Builders.{early_enough}
-use Rattle.bank.specs.Calls.{move, refused, enough, ordered, Limits}
+use Rattle.bank.specs.Calls.{move, refused, enough, ordered}
 use Rattle.bank.specs.Checks.{Check, check, account_there, own_checks}
 use Rattle.bank.specs.Room.{has_room}
 use Rattle.bank.proofs.Refusals.{Taken, Unchecked, passing, failing, all_passed}

@@ -1,5 +1,5 @@
 -- The checks of questions, in their order.
-use Rattle.std.proofs.Common.{◌≡◌, ℕ, ◌<◌, Bool, true, false, ◌&&◌, ltb, leb, List, [], ◌∷◌, length, refl, arith}
+use Rattle.std.proofs.Common.{◌≡◌, ℕ, ◌<◌, true, false, ltb, leb, List, [], ◌∷◌, length, refl, arith}
 use Rattle.bank.specs.Calls.{balance, sums, taken_so_far, refused}
 use Rattle.bank.specs.Checks.{Check, check, account_there, own_checks}
 use Rattle.bank.specs.Room.{has_room}

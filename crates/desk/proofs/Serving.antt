@@ -1,24 +1,22 @@
 -- From what the checks of a call say to what a function of the desk leaves.
-use Rattle.std.proofs.Common.{◌≡◌, ℕ, ◌≤◌, Bool, true, false, not, ◌&&◌, List, [], ◌∷◌, ◌++◌, sym, refl, ap, ◌∙◌, subst}
+use Rattle.std.proofs.Common.{◌≡◌, ℕ, Bool, true, false, not, ◌&&◌, List, [], ◌∷◌, ◌++◌, sym, refl, ap, ◌∙◌, subst}
 use Rattle.std.proofs.lemmas.Bool.{true≢false}
-use Rattle.bank.specs.Book.{pick, Bank}
 use Rattle.bank.specs.Calls.{Call, Answer, refused, Limits, changed, told, answer}
 use Rattle.bank.specs.Builders.{counted}
 use Rattle.bank.specs.Count.{changes}
-use Rattle.bank.specs.Effects.{Effect, made, effects, performed}
+use Rattle.bank.specs.Effects.{Effect, effects, performed}
 use Rattle.bank.specs.Promise.{asks, plain, allowed}
 use Rattle.bank.specs.Room.{room_checks}
 use Rattle.bank.proofs.Effects.{by_effects}
 use Rattle.bank.proofs.Limited.{allowed_parts}
 use Rattle.bank.proofs.Refusals.{Turned, Taken, Unchecked, unchecked}
-use Rattle.device.specs.Book.{ran_by}
 use Rattle.device.proofs.Keeps.{ran_snoc}
 use Rattle.model.specs.Register.{Dated, Register, sets, register_after, register_book, new_register}
 use Rattle.model.specs.First.{not_yet}
 use Rattle.model.specs.Whole.{ReachedRegister}
 use Rattle.model.proofs.ReachedRegister.{reached_under, register_idle, register_taken}
 use Rattle.ledger.specs.Meaning.{bank, rates_set, register, limits, sets_by}
-use Rattle.ledger.specs.Whole.{Whole, Made, Becomes}
+use Rattle.ledger.specs.Whole.{Made, Becomes}
 use Rattle.ledger.specs.declared.Ledger.{Ledger}
 use Rattle.desk.specs.Desk.{Kept, Served, Asked, AskedFirst, ServedFirst}
 

@@ -1,10 +1,10 @@
 -- What taking a call leaves, and what always holds of a book that calls are taken on. Assumes nothing: these are definitions.
 use Rattle.std.specs.Prelude.{◌≡◌, ℕ, Bool, true, false, ◌&&◌, [], Some, None, Ok, Err, Option, Result}
 use Rattle.bank.specs.Book.{pick}
-use Rattle.bank.specs.Calls.{Call, Answer, Limits, answer}
+use Rattle.bank.specs.Calls.{Call, Answer, answer}
 use Rattle.bank.specs.Count.{changes}
 use Rattle.bank.specs.Promise.{asks, plain, allowed}
-use Rattle.model.specs.Register.{Register, register_after}
+use Rattle.model.specs.Register.{register_after}
 use Rattle.model.specs.First.{not_yet}
 use Rattle.model.specs.Whole.{ReachedRegister}
 use Rattle.wire.specs.Answered.{answered}

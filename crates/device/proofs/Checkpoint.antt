@@ -1,12 +1,12 @@
 -- The journal with checkpoints keeps the book.
-use Rattle.std.proofs.Common.{◌≡◌, ℕ, zero, suc, ◌+◌, ◌-◌, ◌*◌, ◌/◌, ◌%◌, ◌<◌, ◌≤◌, Bool, true, false, ◌&&◌, eqb, ltb, leb, ◌≢◌, ◌⊎◌, List, [], ◌∷◌, ◌++◌, length, take, drop, replicate, sym, refl, ap, ◌∙◌, subst, inl, inr, append_assoc, append-nil, zero-mul, arith, length-append, take_all, lt-ltb, eq-eqb, ne_eqb, eqb-true}
+use Rattle.std.proofs.Common.{◌≡◌, ℕ, zero, suc, ◌+◌, ◌*◌, ◌/◌, ◌%◌, ◌<◌, ◌≤◌, Bool, true, false, eqb, ltb, ◌≢◌, ◌⊎◌, List, [], ◌∷◌, ◌++◌, length, replicate, sym, refl, ap, ◌∙◌, subst, inl, inr, zero-mul, arith, length-append, take_all, lt-ltb, eq-eqb, ne_eqb, eqb-true}
 use lib.Seq.{take-nil}
 use Rattle.std.proofs.lemmas.Bool.{and_parts, and_from, leb-true, leb-false}
 use Rattle.std.proofs.lemmas.List.{drop_all}
 use borrow.Author.Tests.{eqb-false}
 use Rattle.device.specs.Device.{pick, Device, put, all_bytes}
 use Rattle.device.specs.Book.{Book, ran_by, every, Keeps}
-use Rattle.device.specs.Plan.{Write, Plan, Planned, program_of, put_all, put_batches, Among, Torn, AllTorn, whole_writes, whole_batches, PlanSteps, PlanBounds}
+use Rattle.device.specs.Plan.{Write, Planned, program_of, put_all, put_batches, Among, Torn, AllTorn, whole_writes, whole_batches, PlanSteps, PlanBounds}
 use Rattle.device.specs.Journal.{chunk, gather}
 use Rattle.device.specs.Checkpoint.{Layout, LayoutLaws, Changes, Since, area, snapshot_writes, calls_of, bank_of, takes, full, appended, begun, append_batches, checkpoint_batches, checkpointed, Sound, Stands, ReadsSince}
 use Rattle.device.proofs.Chunks.{every_snoc, every_take, every_drop, apart, block_begins, block_ends, block_there, chunk_at, chunk_other, chunk_fits, gathered}

@@ -1,5 +1,5 @@
 -- Lists cut into chunks of p, of which each goes into a block.
-use Rattle.std.proofs.Common.{◌≡◌, ℕ, zero, suc, ◌+◌, ◌-◌, ◌*◌, ◌/◌, ◌<◌, ◌≤◌, min, Bool, true, false, ◌&&◌, ◌≢◌, ◌⊎◌, List, [], ◌∷◌, ◌++◌, length, take, drop, sym, refl, ap, ◌∙◌, subst, inl, inr, mul-le-mul_right, suc-mul, div-lt_iff_lt-mul, zero-mul, div-mul-le_self, add-one, arith, length-append, length-drop, length-take, take_all, take-add}
+use Rattle.std.proofs.Common.{◌≡◌, ℕ, zero, suc, ◌+◌, ◌*◌, ◌/◌, ◌<◌, ◌≤◌, Bool, true, ◌≢◌, List, [], ◌∷◌, ◌++◌, length, take, drop, refl, mul-le-mul_right, suc-mul, div-lt_iff_lt-mul, zero-mul, div-mul-le_self, add-one, arith, length-append, length-drop, length-take, take_all, take-add}
 use native.Mathlib.Nat.{lt-div-mul-add, div-eq_of_eq-mul_left, div-eq_of_lt-le}
 use native.Mathlib.Decide.{dec_lt}
 use lib.Seq.{take-nil, take-append-le, drop-append-le}

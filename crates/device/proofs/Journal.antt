@@ -1,12 +1,12 @@
 -- The journal keeps the book.
-use Rattle.std.proofs.Common.{◌≡◌, ℕ, zero, suc, ◌+◌, ◌-◌, ◌*◌, ◌/◌, ◌<◌, ◌≤◌, Bool, true, false, ◌&&◌, eqb, ltb, ◌≢◌, ◌⊎◌, List, [], ◌∷◌, ◌++◌, length, take, drop, replicate, sym, refl, ap, ◌∙◌, subst, inl, inr, append_assoc, append-nil, arith, length-append, length-drop, length-take, take_all, take-add, lt-ltb, eq-eqb, ne_eqb, eqb-true}
-use lib.Seq.{take-nil, take-append-le, drop-append-le}
-use Rattle.std.proofs.lemmas.Bool.{and_parts, and_from}
+use Rattle.std.proofs.Common.{◌≡◌, ℕ, ◌+◌, ◌*◌, ◌/◌, ◌<◌, ◌≤◌, Bool, true, false, ◌&&◌, eqb, ltb, ◌≢◌, ◌⊎◌, List, [], ◌∷◌, ◌++◌, length, take, replicate, sym, refl, ap, ◌∙◌, subst, inl, inr, arith, length-append, take_all, lt-ltb, eq-eqb, ne_eqb, eqb-true}
+use lib.Seq.{take-nil}
+use Rattle.std.proofs.lemmas.Bool.{and_parts}
 use Rattle.std.proofs.lemmas.List.{drop_all}
 use borrow.Author.Tests.{eqb-false}
-use Rattle.device.specs.Device.{pick, Device, put, all_bytes}
+use Rattle.device.specs.Device.{pick, Device, put}
 use Rattle.device.specs.Book.{Book, ran_by, every, Keeps}
-use Rattle.device.specs.Plan.{Write, Plan, Planned, program_of, put_all, put_batches, Among, Torn, AllTorn, whole_writes, whole_batches, PlanSteps, PlanBounds}
+use Rattle.device.specs.Plan.{Write, program_of, put_all, put_batches, Among, Torn, AllTorn, whole_writes, whole_batches, PlanSteps, PlanBounds}
 use Rattle.device.specs.Journal.{Format, ReadsBack, Grows, chunk, gather, takes, noted, logged, journal, HoldsBlock, HoldsJournal}
 use Rattle.device.proofs.Chunks.{every_snoc, every_take, every_drop, block_begins, block_ends, block_there, chunk_at, chunk_other, chunk_fits, gathered}
 use Rattle.device.proofs.Keeps.{ran_snoc}

@@ -1,9 +1,8 @@
 -- The promise for all lists of calls and all cuts, from what is owed per call.
-use Rattle.std.proofs.Common.{◌≡◌, ℕ, zero, suc, ◌+◌, ◌-◌, ◌*◌, ◌/◌, ◌<◌, ◌≤◌, Bool, true, false, ◌&&◌, ◌⊎◌, List, [], ◌∷◌, ◌++◌, length, take, replicate, sym, refl, ap, ◌∙◌, subst, inl, inr, append_assoc, append-nil, arith}
-use mathlib.Core.Logic.{⊎_map}
+use Rattle.std.proofs.Common.{◌≡◌, ℕ, suc, ◌+◌, ◌*◌, ◌≤◌, Bool, true, false, ◌⊎◌, List, [], ◌∷◌, ◌++◌, length, take, replicate, refl, ap, ◌∙◌, inl, inr, append_assoc, append-nil, arith}
 use lib.Seq.{take-nil}
 use Rattle.std.proofs.lemmas.Bool.{and_parts, and_from}
-use Rattle.device.specs.Device.{pick, Device, Act, write, flush, say, Program, acts, safe, since_flush, HasWritten, said, whole_blocks, flushes, put, LeftBy}
+use Rattle.device.specs.Device.{pick, Device, Act, Program, acts, safe, since_flush, said, whole_blocks, flushes, LeftBy}
 use Rattle.device.specs.Book.{Book, ran_by, answers_by, every, counted, written, LeftFrom, CutReads, Steps, Bounds, Keeps, Alike}
 use Rattle.device.proofs.Cuts.{safe-++, since_flush-++, said-++, flushes-++, whole-++, take_split}
 

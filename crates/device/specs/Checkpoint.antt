@@ -1,10 +1,10 @@
 -- A journal with checkpoints: a snapshot of the bank, and at most 1000 calls after it. Blocks 0 to j - 1 are the journal's, each with the number of its checkpoint and up to p calls;
 -- one of an earlier checkpoint counts as empty. Two areas of k blocks hold the snapshots, in turn. A checkpoint is made before the 1001st call: the blocks that the snapshot uses are
 -- written to the other area and flushed; then block 0 with the new number and the call makes it count. Assumes nothing: these are definitions.
-use Rattle.std.specs.Prelude.{◌≡◌, ℕ, zero, suc, ◌+◌, ◌*◌, ◌/◌, ◌%◌, ◌<◌, ◌≤◌, Bool, true, false, ◌&&◌, ◌⊎◌, List, [], ◌∷◌, ◌++◌, length, replicate, ◌==◌, nat_le}
+use Rattle.std.specs.Prelude.{◌≡◌, ℕ, zero, suc, ◌+◌, ◌/◌, ◌%◌, ◌<◌, ◌≤◌, Bool, true, false, ◌&&◌, ◌⊎◌, List, [], ◌∷◌, ◌++◌, length, replicate, ◌==◌, nat_le}
 use Rattle.device.specs.Device.{pick, Device, all_bytes}
 use Rattle.device.specs.Book.{Book, ran_by, every}
-use Rattle.device.specs.Plan.{Write, Plan, Planned}
+use Rattle.device.specs.Plan.{Write, Planned}
 use Rattle.device.specs.Journal.{chunk, gather}
 
 -- the bytes of a block of the journal, by the number of the checkpoint and the calls, and back; whether one is empty or of this book; whether a snapshot of a bank uses its block i; that block, and back

@@ -2,7 +2,7 @@
 use Rattle.std.specs.Prelude.{◌≡◌, ℕ, zero, suc, ◌+◌, ◌*◌, ◌/◌, ◌<◌, ◌≤◌, Bool, true, false, ◌&&◌, List, [], ◌∷◌, ◌++◌, length, take, drop, replicate}
 use Rattle.device.specs.Device.{pick, Device, all_bytes}
 use Rattle.device.specs.Book.{Book, ran_by, every}
-use Rattle.device.specs.Plan.{Write, Plan, Planned}
+use Rattle.device.specs.Plan.{Planned}
 
 -- the bytes of a block for some calls, and back; and whether a block is empty or of this book
 pub record Format (C : Type 0) : Type 0 where

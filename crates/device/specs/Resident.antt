@@ -1,8 +1,8 @@
 -- The journal's program by what code holds in memory: the bank, how many calls are in the journal, and those in its last block. Assumes nothing: these are definitions.
-use Rattle.std.specs.Prelude.{ℕ, zero, suc, ◌+◌, ◌*◌, ◌/◌, Bool, true, false, ◌&&◌, List, [], ◌∷◌, ◌++◌, length, ◌==◌, nat_le}
-use Rattle.device.specs.Device.{pick, Device}
+use Rattle.std.specs.Prelude.{ℕ, zero, suc, ◌+◌, ◌/◌, Bool, ◌&&◌, List, [], ◌∷◌, ◌++◌, length, ◌==◌, nat_le}
+use Rattle.device.specs.Device.{pick}
 use Rattle.device.specs.Book.{Book, ran_by}
-use Rattle.device.specs.Plan.{Write, Plan, Planned}
+use Rattle.device.specs.Plan.{Planned}
 use Rattle.device.specs.Journal.{Format, chunk, gather}
 use Rattle.device.specs.Checkpoint.{Layout, Since, area, snapshot_writes, checkpointed}
 

@@ -1,5 +1,5 @@
 -- A walk along an account's chain adds up what its bookings give: the amounts of those that pass a test, which those of other parties do not.
-use Rattle.std.proofs.Common.{◌≡◌, ℕ, suc, ◌+◌, ◌-◌, ◌<◌, ◌≤◌, Bool, false, length, get_or, ap, ◌∙◌, subst, add-one, arith}
+use Rattle.std.proofs.Common.{◌≡◌, ℕ, suc, ◌+◌, ◌<◌, ◌≤◌, Bool, false, length, get_or, ap, ◌∙◌, subst, add-one, arith}
 use Rattle.std.proofs.lemmas.Bool.Decides.{nat_tests}
 use Rattle.bank.specs.Book.{pick, Booking, came, left}
 use Rattle.bank.specs.Sums.{tally, to_by, from_by}

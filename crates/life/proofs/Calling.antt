@@ -1,10 +1,10 @@
 -- A call of a life: there is room for its acts, and what is left of the life gives what all of it gives.
-use Rattle.std.proofs.Common.{◌≡◌, ℕ, zero, suc, ◌+◌, ◌-◌, ◌*◌, ◌/◌, ◌<◌, ◌≤◌, Bool, true, false, ◌&&◌, List, [], ◌∷◌, ◌++◌, length, get_or, take, drop, sym, refl, ap, ◌∙◌, subst, add-one, arith, Bor}
+use Rattle.std.proofs.Common.{◌≡◌, ℕ, zero, suc, ◌+◌, ◌-◌, ◌/◌, ◌<◌, ◌≤◌, Bool, true, false, ◌&&◌, List, [], ◌∷◌, ◌++◌, length, get_or, take, drop, sym, refl, ap, ◌∙◌, add-one, arith, Bor}
 use Rattle.std.proofs.lemmas.Bool.{and_parts}
 use Rattle.device.specs.Device.{write, flush, say, acts}
 use Rattle.device.specs.Resident.{Memory}
 use Rattle.bank.specs.Book.{Bank}
-use Rattle.bank.specs.Calls.{Call, Limits, answer}
+use Rattle.bank.specs.Calls.{Call, Limits}
 use Rattle.bank.specs.Calls.{Answer as Reply}
 use Rattle.bank.specs.Count.{changes}
 use Rattle.bank.specs.Device.{Act}

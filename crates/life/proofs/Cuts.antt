@@ -1,16 +1,16 @@
 -- What is left of a device, and was heard, after some acts and a cut.
-use Rattle.std.proofs.Common.{◌≡◌, ℕ, zero, suc, ◌+◌, true, ◌⊎◌, List, [], ◌∷◌, ◌++◌, length, take, sym, refl, ap, ◌∙◌, subst, inl, inr, append_assoc, append-nil, arith, Bor}
+use Rattle.std.proofs.Common.{◌≡◌, ℕ, zero, suc, ◌+◌, true, ◌⊎◌, List, [], ◌∷◌, ◌++◌, length, take, sym, refl, ap, ◌∙◌, subst, append_assoc, append-nil, arith, Bor}
 use Rattle.device.specs.Device.{Device, write, flush, say, said, acts}
 use Rattle.bank.specs.Calls.{Call, Answer, Limits, answers, ran, new_bank}
 use Rattle.bank.specs.Device.{Act, LeftBy}
-use Rattle.bank.specs.Promise.{allowed, all_readable, all_plain}
+use Rattle.bank.specs.Promise.{allowed, all_readable}
 use Rattle.model.specs.First.{first_program, FirstReading}
 use Rattle.model.proofs.First.{first_core_by}
 use Rattle.wire.specs.Answered.{written_answer}
 use Rattle.blocks.specs.Blocks.{device_of}
 use Rattle.device.specs.Resident.{Memory}
 use Rattle.bank.specs.Book.{Bank}
-use Rattle.sim.specs.Held.{Held, at_rest, done, dones}
+use Rattle.sim.specs.Held.{Held, at_rest, dones}
 use Rattle.sim.specs.Cut.{cut_by}
 use Rattle.sim.specs.Sims.{holds}
 use Rattle.sim.specs.declared.Unflushed.{Unflushed}

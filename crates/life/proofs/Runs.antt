@@ -1,5 +1,5 @@
 -- A run of acts under a budget.
-use Rattle.std.proofs.Common.{◌≡◌, ℕ, zero, suc, ◌+◌, ◌-◌, ◌<◌, ◌≤◌, List, [], ◌∷◌, ◌++◌, length, take, sym, refl, ap, ◌∙◌, sub-one, arith}
+use Rattle.std.proofs.Common.{◌≡◌, ℕ, zero, suc, ◌-◌, ◌<◌, ◌≤◌, List, [], ◌∷◌, ◌++◌, length, take, refl, sub-one, arith}
 use native.Mathlib.Nat.{sub-zero}
 use Rattle.bank.specs.Device.{Act}
 use Rattle.life.specs.Life.{World, after_act, after_acts}

@@ -1,5 +1,5 @@
 -- A session that did some acts: only how far it came has changed.
-use Rattle.std.proofs.Common.{◌≡◌, ℕ, ◌+◌, ◌≤◌, List, [], length, take, sym, refl, ap, ◌∙◌, subst, arith}
+use Rattle.std.proofs.Common.{◌≡◌, ℕ, [], length, take, sym, refl, ap, ◌∙◌, subst, arith}
 use Rattle.bank.specs.Promise.{room}
 use Rattle.wire.specs.Answered.{answered, written_answer}
 use Rattle.wire.specs.declared.answer.Answer.{Answer as Code}
@@ -9,7 +9,7 @@ use Rattle.desk.specs.Desk.{Kept}
 use Rattle.journal.specs.Tail.{bounds, Sound}
 use Rattle.journal.specs.declared.journal.Journal.{Journal}
 use Rattle.session.specs.declared.Session.{Session}
-use Rattle.session.specs.Session.{memory, answer_of_lem, Same, Ready, Joined}
+use Rattle.session.specs.Session.{memory, answer_of_lem, Same, Ready}
 use Rattle.model.specs.First.{size}
 use Rattle.ledger.specs.Meaning.{bank}
 

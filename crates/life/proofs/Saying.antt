@@ -1,5 +1,5 @@
 -- An answer is said: it is heard behind the others, and there is room for what is left.
-use Rattle.std.proofs.Common.{◌≡◌, ℕ, ◌+◌, ◌-◌, ◌<◌, ◌≤◌, List, [], ◌∷◌, ◌++◌, length, take, sym, refl, ap, ◌∙◌, subst}
+use Rattle.std.proofs.Common.{◌≡◌, ℕ, ◌+◌, ◌-◌, List, ◌∷◌, ◌++◌, length, take, sym, ap, ◌∙◌, subst}
 use Rattle.device.specs.Device.{say}
 use Rattle.bank.specs.Device.{Act}
 use Rattle.wire.specs.Answered.{written_answer}
@@ -8,7 +8,7 @@ use Rattle.sim.specs.declared.Unflushed.{Unflushed}
 use Rattle.session.specs.declared.Session.{Session}
 use Rattle.session.specs.Session.{left, answer_of_lem}
 use Rattle.life.specs.declared.heard.Heard.{Heard}
-use Rattle.life.specs.Life.{World, spoken_in, free_in, world, after_act, Space, space, Fits, FitsOn}
+use Rattle.life.specs.Life.{spoken_in, free_in, world, after_act, space, Fits, FitsOn}
 
 -- the bytes that are said are the answer's
 pub said_bytes : (s t : Session) (n : ℕ) (bs rs : List ℕ) → n ≡ s.length → t.bytes.now ≡ s.bytes.now → take s.length s.bytes.now ≡ written_answer (answer_of_lem s) → bs ≡ t.bytes.now → rs ≡ take n bs →

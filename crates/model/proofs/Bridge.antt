@@ -1,16 +1,16 @@
 -- The bank's own words for lists of calls are the device theory's.
-use Rattle.std.proofs.Common.{◌≡◌, ℕ, zero, suc, ◌+◌, ◌/◌, ◌≤◌, Bool, true, false, ◌&&◌, ◌⊎◌, List, [], ◌∷◌, ◌++◌, length, take, replicate, sym, refl, ap, ◌∙◌, subst, inl, inr}
+use Rattle.std.proofs.Common.{◌≡◌, ℕ, Bool, true, false, ◌&&◌, List, [], ◌∷◌, ◌++◌, sym, refl, ap, ◌∙◌}
 use Rattle.std.proofs.lemmas.Bool.{and_parts, and_from}
 use Rattle.bank.specs.Book.{Bank, pick}
 use Rattle.bank.specs.Calls.{Call, Answer, Limits, after, answer, answers, ran, new_bank}
-use Rattle.bank.specs.Device.{Device, Act, Program, acts, LeftBy, said, whole_blocks, flushes}
-use Rattle.bank.specs.Promise.{readable, all_readable, asks, changing, room, plain, all_plain}
+use Rattle.bank.specs.Device.{Device, Program}
+use Rattle.bank.specs.Promise.{readable, all_readable, asks, changing, room, all_plain}
 use Rattle.model.specs.First.{first_call}
 use Rattle.model.specs.Core.{book, IsTheBankBy, IsTheFirstBy}
 use Rattle.model.specs.Register.{Register, register_book, register_after, new_register}
 use Rattle.device.specs.Device.{pick as pick-of}
 use Rattle.device.proofs.Keeps.{ran_snoc}
-use Rattle.device.specs.Book.{Book, Keeps, ran_by, answers_by, every, counted}
+use Rattle.device.specs.Book.{Keeps, ran_by, answers_by, every, counted}
 
 pub ran_is : (l : Limits) (n : Bank) (cs : List Call) → ran_by (book l) n cs ≡ ran l n cs
 unfolding ran_by ran

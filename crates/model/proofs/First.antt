@@ -1,11 +1,10 @@
 -- The first stage's program is the bank, for any codec of blocks.
-use Rattle.std.proofs.Common.{◌≡◌, ℕ, zero, suc, ◌+◌, ◌*◌, ◌/◌, ◌<◌, ◌≤◌, Bool, true, false, not, ◌&&◌, eqb, ltb, leb, ◌⊎◌, List, [], ◌∷◌, ◌++◌, length, sym, refl, ap, ◌∙◌, subst, inl, inr, arith, length-append, eqb-true}
-use Rattle.std.proofs.lemmas.Bool.{and_parts, and_from, leb-true}
-use borrow.Author.Tests.{eqb-false}
-use Rattle.bank.specs.Book.{Bank, pick}
-use Rattle.bank.specs.Calls.{Call, opens, rated, move, take_back, day_ends, balance, statement, sums, taken_so_far, garbled, Answer, Limits, after, answer, turned, turned_by, good_call, changed, fits, new_bank, orders_fit, rates_in}
+use Rattle.std.proofs.Common.{◌≡◌, suc, ◌+◌, ◌≤◌, Bool, true, false, not, List, [], refl, arith, length-append, eqb-true}
+use Rattle.std.proofs.lemmas.Bool.{and_parts}
+use Rattle.bank.specs.Book.{Bank}
+use Rattle.bank.specs.Calls.{Call, opens, rated, move, take_back, day_ends, balance, statement, sums, taken_so_far, garbled, Limits, after, turned, changed, fits}
 use Rattle.bank.specs.Promise.{readable, asks, plain, room, allowed, IsTheFirstCore}
-use Rattle.model.specs.Core.{book, IsTheFirstBy, IsTheFirstCoreBy, the_first_core, ThroughEveryLife}
+use Rattle.model.specs.Core.{book, IsTheFirstCoreBy, the_first_core, ThroughEveryLife}
 use Rattle.model.specs.First.{first_call, size, not_yet, journal_format, first_program, FirstReading}
 use Rattle.bank.specs.Count.{changes}
 use Rattle.device.specs.Book.{Keeps}

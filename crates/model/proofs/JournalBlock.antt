@@ -1,7 +1,7 @@
 -- Blocks of the journal read back, and calls that are taken can be stored.
-use Rattle.std.proofs.Common.{◌≡◌, ℕ, zero, suc, ◌+◌, ◌-◌, ◌*◌, ◌<◌, ◌≤◌, Bool, true, false, not, ◌&&◌, ◌||◌, eqb, ltb, leb, List, [], ◌∷◌, ◌++◌, length, replicate, sym, refl, ap, ◌∙◌, subst, arith, length-append, length-set, lt-ltb, eq-eqb, ne_eqb, eqb-true}
+use Rattle.std.proofs.Common.{◌≡◌, ℕ, suc, ◌+◌, ◌-◌, ◌*◌, ◌<◌, ◌≤◌, true, false, not, eqb, ltb, leb, List, [], ◌∷◌, ◌++◌, length, replicate, sym, refl, ap, ◌∙◌, subst, arith, length-append, length-set, lt-ltb, eq-eqb, ne_eqb, eqb-true}
 use Rattle.std.proofs.lemmas.Bool.{and_parts, and_from, leb-true, ltb-true, or_right}
-use Rattle.bank.specs.Book.{Bank, pick}
+use Rattle.bank.specs.Book.{Bank}
 use Rattle.bank.specs.Calls.{Call, opens, rated, move, take_back, day_ends, balance, statement, sums, taken_so_far, garbled, Limits, turned, turned_by, good_call, changed}
 use Rattle.bank.specs.Promise.{asks, allowed}
 use Rattle.bank.proofs.Taken.{can_go_back, can_move}
@@ -11,7 +11,7 @@ use Rattle.device.specs.Device.{all_bytes}
 use Rattle.device.specs.Book.{every}
 use Rattle.device.specs.Rows.{top, bytes_of, row, number_of, numbers, fits_in, fits_row, row_of, thing_in, rows, block_of, rows_in, with_bytes}
 use Rattle.device.proofs.Rows.{zeros, block_begun, block_more, row_of_length, row_of_bytes, row_of_back, block_full, block_bytes, block_back}
-use Rattle.bank.proofs.Limited.{never, pick_zero, taken_fits, taken_good, taken_by, Fits, fits_parts, Allowed, allowed_parts}
+use Rattle.bank.proofs.Limited.{never, pick_zero, taken_fits, taken_good, taken_by, Fits, fits_parts, allowed_parts}
 
 pub call_fits : (c : Call) → stored c ≡ true → fits_row call_row c ≡ true
 call_fits c h = (and_parts (not (asks c)) (fits_row call_row c) h).1

@@ -1,30 +1,30 @@
 -- What opening can rely on.
-use Rattle.std.proofs.Common.{◌≡◌, ℕ, zero, suc, ◌+◌, ◌-◌, ◌*◌, ◌/◌, ◌<◌, ◌≤◌, Bool, true, false, ◌&&◌, ◌||◌, eqb, ltb, leb, ◌⊎◌, List, [], ◌∷◌, ◌++◌, length, get_or, sym, refl, ap, ◌∙◌, subst, inl, inr, arith, length-take, lt-ltb, eq-eqb, ne_eqb, le-leb}
-use Rattle.std.proofs.lemmas.Bool.{and_parts, and_from}
+use Rattle.std.proofs.Common.{◌≡◌, ℕ, zero, suc, ◌<◌, ◌≤◌, Bool, true, false, eqb, leb, List, [], ◌∷◌, length, get_or, sym, refl, ap, ◌∙◌, inl, inr, arith, length-take, lt-ltb, eq-eqb, ne_eqb, le-leb}
+use Rattle.std.proofs.lemmas.Bool.{and_from}
 use Rattle.bank.specs.Book.{pick, Booking, Bank}
 use Rattle.bank.specs.Calls.{Call, Limits, ran, new_bank}
 use Rattle.bank.specs.Device.{Device}
-use Rattle.bank.specs.Promise.{readable, asks, room, allowed, Reached}
-use Rattle.bank.specs.Bounds.{AmountsBelow, InOrder, DatedBooking}
+use Rattle.bank.specs.Promise.{readable, asks, room, allowed}
+use Rattle.bank.specs.Bounds.{AmountsBelow, DatedBooking}
 use Rattle.bank.proofs.Tally.{Each}
-use Rattle.bank.proofs.Sound.{Fine, Sound}
+use Rattle.bank.proofs.Sound.{Fine}
 use Rattle.bank.proofs.Reached.{reached_sound}
 use Rattle.bank.proofs.Bounded.{within}
 use Rattle.bank.proofs.Order.{in_order}
 use Rattle.model.specs.Core.{book}
-use Rattle.model.specs.First.{first_call, size, not_yet, journal_format, first_program, FirstReading}
+use Rattle.model.specs.First.{first_call, size, not_yet, first_program, FirstReading}
 use Rattle.bank.specs.Count.{changes}
-use Rattle.model.specs.Register.{Dated, Register, register_book, new_register}
-use Rattle.model.specs.JournalBlock.{call_row, stored, head_in, limits_in_lem, headed, own, epoch_in, calls_in}
-use Rattle.model.specs.Snapshot.{Counts, counts_row, counts_of, limits_of, area_blocks, snapshot, snapshot_uses, layout}
+use Rattle.model.specs.Register.{Register, register_book, new_register}
+use Rattle.model.specs.JournalBlock.{call_row, stored, head_in, headed, own, epoch_in, calls_in}
+use Rattle.model.specs.Snapshot.{counts_row, counts_of, limits_of, area_blocks, snapshot, snapshot_uses, layout}
 use Rattle.model.specs.Whole.{ReachedRegister, whole_program, WholeReading}
-use Rattle.model.specs.Opening.{Told, FirstLimitsTold, LimitsTold, rate_sane, booking_sane, in_order_from, sane, snapshot_in, base_in, Passes, NeverRefused, FirstPasses, FirstNeverRefused, AlwaysOpens, FirstAlwaysOpens}
+use Rattle.model.specs.Opening.{Told, FirstLimitsTold, LimitsTold, rate_sane, booking_sane, in_order_from, sane, snapshot_in, base_in, NeverRefused, FirstNeverRefused, AlwaysOpens, FirstAlwaysOpens}
 use Rattle.device.specs.Book.{every, ran_by}
-use Rattle.device.specs.Rows.{thing_in, rows_in, block_of}
+use Rattle.device.specs.Rows.{thing_in, rows_in}
 use Rattle.device.specs.Journal.{chunk, logged, HoldsJournal}
-use Rattle.device.specs.Checkpoint.{Since, Stands, area, calls_of}
+use Rattle.device.specs.Checkpoint.{Since, Stands, area}
 use Rattle.device.proofs.Rows.{rows_in_length}
-use Rattle.device.specs.Lives.{Life, every_life, Happens, left_at}
+use Rattle.device.specs.Lives.{left_at}
 use Rattle.device.proofs.Lives.{reads_after}
 use Rattle.device.proofs.Journal.{ran_logged}
 use Rattle.model.proofs.Bridge.{ran_is, register_ran}

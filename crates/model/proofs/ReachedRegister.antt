@@ -1,8 +1,8 @@
 -- What is known of a bank with its rates in order that calls can bring about: all its numbers fit their rows.
-use Rattle.std.proofs.Common.{◌≡◌, ℕ, zero, suc, ◌+◌, ◌*◌, ◌<◌, ◌≤◌, Bool, true, false, not, ◌&&◌, eqb, ltb, leb, List, [], ◌∷◌, ◌++◌, length, sym, refl, ap, ◌∙◌, subst, append-nil, arith, lt-ltb, eqb-true}
+use Rattle.std.proofs.Common.{◌≡◌, ℕ, ◌<◌, ◌≤◌, Bool, true, false, not, ◌&&◌, eqb, List, [], ◌∷◌, ◌++◌, length, sym, refl, ap, ◌∙◌, subst, append-nil, arith, lt-ltb, eqb-true}
 use Rattle.std.proofs.lemmas.Bool.{and_parts, and_from}
-use Rattle.bank.specs.Book.{pick, Account, Booking, Bank}
-use Rattle.bank.specs.Calls.{Call, opens, rated, move, take_back, day_ends, balance, statement, sums, taken_so_far, garbled, Limits, rates_in, turned, changed, after, ran, new_bank}
+use Rattle.bank.specs.Book.{pick, Booking, Bank}
+use Rattle.bank.specs.Calls.{Call, opens, rated, move, take_back, day_ends, balance, statement, sums, taken_so_far, garbled, Limits, rates_in, turned, changed, new_bank}
 use Rattle.bank.specs.Promise.{asks, allowed, Reached}
 use Rattle.bank.specs.Bounds.{AmountsBelow}
 use Rattle.bank.specs.Room.{ReachedUnder}
@@ -16,7 +16,7 @@ use Rattle.model.specs.Snapshot.{Counts, counts_row, limit_row, rate_row, bookin
 use Rattle.model.specs.Whole.{ReachedRegister, Sized}
 use Rattle.device.specs.Book.{every, ran_by}
 use Rattle.device.specs.Rows.{fits_in, fits_row}
-use Rattle.bank.proofs.Limited.{never, taken_good, taken_by, Fits, fits_parts, Allowed, allowed_parts}
+use Rattle.bank.proofs.Limited.{never, taken_good, taken_by, fits_parts, allowed_parts}
 use Rattle.model.proofs.Bridge.{ran_is, register_ran}
 use Rattle.bank.proofs.Taken.{after_taken}
 use Rattle.bank.proofs.Count.{unasked}

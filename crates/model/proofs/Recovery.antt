@@ -1,15 +1,15 @@
 -- A start, block by block.
-use Rattle.std.proofs.Common.{◌≡◌, ℕ, ◌+◌, ◌*◌, ◌/◌, ◌<◌, ◌≤◌, Bool, true, false, List, [], length, sym, refl, ap, ◌∙◌, subst, arith}
+use Rattle.std.proofs.Common.{◌≡◌, ℕ, ◌/◌, ◌<◌, ◌≤◌, true, List, [], length, sym, ap, ◌∙◌, subst, arith}
 use Rattle.bank.specs.Calls.{Call, Limits, new_bank}
 use Rattle.bank.specs.Device.{Device}
 use Rattle.bank.specs.Promise.{readable, asks, room, allowed}
 use Rattle.model.specs.Core.{book}
-use Rattle.model.specs.First.{first_call, size, not_yet, journal_format, first_program, FirstReading}
+use Rattle.model.specs.First.{first_call, size, not_yet, journal_format, FirstReading}
 use Rattle.bank.specs.Count.{changes}
 use Rattle.model.specs.Register.{Register, register_book}
-use Rattle.model.specs.JournalBlock.{stored, journal_block, epoch_in, calls_in}
+use Rattle.model.specs.JournalBlock.{stored, journal_block, calls_in}
 use Rattle.model.specs.Snapshot.{layout, area_blocks}
-use Rattle.model.specs.Whole.{ReachedRegister, whole_program, WholeReading}
+use Rattle.model.specs.Whole.{ReachedRegister}
 use Rattle.model.specs.Opening.{base_in}
 use Rattle.model.specs.Recovery.{calls_at, Recovers, FirstRecovers}
 use Rattle.device.specs.Journal.{chunk, gather_each, logged, HoldsJournal}

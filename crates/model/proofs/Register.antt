@@ -1,8 +1,8 @@
 -- The rates in the order in which they were set give each account's: what always holds of the bank with its rates in order.
-use Rattle.std.proofs.Common.{◌≡◌, ℕ, zero, suc, ◌+◌, ◌%◌, ◌<◌, ◌≤◌, Bool, true, false, not, ◌&&◌, eqb, ltb, leb, ◌≢◌, List, [], ◌∷◌, ◌++◌, length, get_or, set, sym, refl, ap, ◌∙◌, ap₂, append-nil, arith, length-append, length-set, eq-eqb, ne_eqb}
+use Rattle.std.proofs.Common.{◌≡◌, ℕ, zero, suc, ◌+◌, ◌%◌, ◌<◌, ◌≤◌, Bool, true, false, eqb, ltb, leb, ◌≢◌, List, [], ◌∷◌, ◌++◌, length, get_or, set, sym, refl, ap, ◌∙◌, ap₂, append-nil, arith, length-append, length-set, eq-eqb, ne_eqb}
 use Rattle.std.proofs.lemmas.Bool.{and_parts, leb-true, ltb-true}
 use Rattle.bank.specs.Book.{pick, Rate, Account, Bank}
-use Rattle.bank.specs.Calls.{Call, opens, rated, move, take_back, day_ends, balance, statement, sums, taken_so_far, garbled, rates_in, turned_by, good_call, changed, ended, limit_of}
+use Rattle.bank.specs.Calls.{Call, opens, rated, move, take_back, day_ends, balance, statement, sums, taken_so_far, garbled, rates_in, turned_by, good_call, changed, ended}
 use Rattle.bank.proofs.Tally.{pick_both, Each, each_append, each_like}
 use Rattle.model.specs.Register.{Dated, sets}
 use Rattle.model.specs.Snapshot.{limits_of, rates_of, accounts_of}

@@ -1,12 +1,12 @@
 -- A snapshot of the book reads back, from the blocks that it uses.
-use Rattle.std.proofs.Common.{◌≡◌, ℕ, zero, suc, ◌+◌, ◌-◌, ◌*◌, ◌/◌, ◌<◌, ◌≤◌, Bool, true, false, ◌&&◌, ltb, List, [], ◌∷◌, ◌++◌, length, get_or, sym, refl, ap, ◌∙◌, ap₂, arith, ltb-false, ltb-true, le-ltb, lt-ltb}
-use Rattle.bank.specs.Book.{pick, Account, Booking, Bank}
+use Rattle.std.proofs.Common.{◌≡◌, ℕ, ◌+◌, ◌-◌, ◌<◌, Bool, true, false, ltb, List, [], ◌∷◌, length, get_or, sym, refl, ap, ◌∙◌, ap₂, arith, le-ltb, lt-ltb}
+use Rattle.bank.specs.Book.{pick}
 use Rattle.bank.specs.Calls.{Limits}
 use Rattle.model.specs.Register.{Dated, Register}
 use Rattle.model.specs.Snapshot.{Counts, counts_row, limit_row, rate_row, booking_row, limits_of, accounts_of, blocks_for, area_blocks, behind, counts_of, snapshot_uses, snapshot, restore}
 use Rattle.device.specs.Device.{all_bytes}
 use Rattle.device.specs.Book.{every}
-use Rattle.device.specs.Rows.{Row, fits_row, thing_in, rows_at, block_of, rows_in, table, in_table, table_in}
+use Rattle.device.specs.Rows.{fits_row, thing_in, rows_at, block_of, rows_in, table, in_table, table_in}
 use Rattle.device.proofs.Rows.{block_full, block_bytes, block_back, table_full, table_bytes, table_back}
 use Rattle.bank.proofs.Limited.{Fits, fits_parts}
 use Rattle.model.proofs.Register.{limits_length}

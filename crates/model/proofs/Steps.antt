@@ -1,11 +1,9 @@
 -- One call of the first stage's program: what it does, and what it keeps.
-use Rattle.std.proofs.Common.{◌≡◌, ℕ, suc, ◌/◌, Bool, true, false, ◌&&◌, eqb, List, [], ◌∷◌, ◌++◌, length, sym, refl, ap, ◌∙◌}
+use Rattle.std.proofs.Common.{◌≡◌, suc, ◌/◌, true, false, ◌&&◌, eqb, [], ◌∷◌, ◌++◌, length, refl}
 use Rattle.std.proofs.lemmas.Bool.{and_parts}
 use Rattle.bank.specs.Book.{Bank}
 use Rattle.bank.specs.Calls.{Call, Limits, after, answer}
 use Rattle.bank.specs.Count.{changes}
-use Rattle.bank.specs.Promise.{readable, plain}
-use Rattle.bank.specs.Device.{Act}
 use Rattle.device.specs.Device.{pick, write, flush, say}
 use Rattle.device.specs.Plan.{acts_of, writes}
 use Rattle.device.specs.Resident.{Memory}

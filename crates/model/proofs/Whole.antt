@@ -1,7 +1,7 @@
 -- The whole program is the bank.
-use Rattle.std.proofs.Common.{◌≡◌, ℕ, suc, ◌+◌, ◌*◌, ◌/◌, ◌<◌, ◌≤◌, Bool, true, false, not, ◌&&◌, eqb, List, [], ◌∷◌, ◌++◌, length, sym, refl, ap, ◌∙◌, subst, arith, eqb-true}
+use Rattle.std.proofs.Common.{◌≡◌, ◌<◌, true, not, eqb, [], ◌∷◌, ◌++◌, refl, ap, ◌∙◌, arith, eqb-true}
 use Rattle.std.proofs.lemmas.Bool.{and_parts, not-true}
-use Rattle.bank.specs.Calls.{Call, Limits, turned}
+use Rattle.bank.specs.Calls.{Limits, turned}
 use Rattle.bank.specs.Promise.{readable, asks, room, allowed, IsTheCore}
 use Rattle.model.specs.Core.{book, IsTheCoreBy, the_core, ThroughEveryLife}
 use Rattle.model.specs.First.{not_yet}
@@ -11,12 +11,12 @@ use Rattle.model.specs.JournalBlock.{stored}
 use Rattle.model.specs.Snapshot.{layout, area_blocks}
 use Rattle.model.specs.Whole.{ReachedRegister, whole_program, WholeReading}
 use Rattle.device.specs.Book.{Keeps, ran_by}
-use Rattle.device.specs.Checkpoint.{Layout, LayoutLaws, Changes}
+use Rattle.device.specs.Checkpoint.{LayoutLaws, Changes}
 use Rattle.device.proofs.Keeps.{ran_snoc}
 use Rattle.device.proofs.Checkpoint.{checkpointed_keeps}
 use Rattle.device.proofs.Resident.{resident_since_keeps}
 use Rattle.device.proofs.Lives.{through_lives, bounds_from}
-use Rattle.bank.proofs.Limited.{Allowed, allowed_parts}
+use Rattle.bank.proofs.Limited.{allowed_parts}
 use Rattle.model.proofs.Bridge.{bank_by, register_keeps}
 use Rattle.bank.proofs.Taken.{after_taken}
 use Rattle.model.proofs.JournalBlock.{none_epoch, none_calls, none_own, journal_block_own, journal_block_epoch, journal_block_back, journal_block_full, journal_block_bytes, storable}

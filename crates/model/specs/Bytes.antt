@@ -1,6 +1,6 @@
 -- Blocks and rows by their bytes, as examples: the format in plain numbers. Assumes nothing: these are definitions.
-use Rattle.std.specs.Prelude.{◌≡◌, ℕ, List, [], ◌∷◌, ◌++◌, take, drop, replicate}
-use Rattle.bank.specs.Calls.{Call, opens, rated, move, take_back, day_ends, Limits}
+use Rattle.std.specs.Prelude.{◌≡◌, [], ◌∷◌, take, drop, replicate}
+use Rattle.bank.specs.Calls.{opens, rated, move, take_back, day_ends, Limits}
 use Rattle.model.specs.JournalBlock.{call_row, journal_block}
 use Rattle.model.specs.Snapshot.{counts_row, limit_row, rate_row, booking_row}
 use Rattle.device.specs.Rows.{row_of}

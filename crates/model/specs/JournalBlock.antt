@@ -1,5 +1,5 @@
 -- A block of the journal: a header of 32 bytes, which has the limits too, and up to 24 rows of 20 bytes, each a call that was taken. Assumes nothing: these are definitions.
-use Rattle.std.specs.Prelude.{ℕ, Bool, true, false, not, ◌&&◌, ◌||◌, List, [], ◌∷◌, length, ◌==◌, slice_index}
+use Rattle.std.specs.Prelude.{ℕ, Bool, not, ◌&&◌, ◌||◌, List, [], ◌∷◌, length, ◌==◌, slice_index}
 use Rattle.bank.specs.Book.{pick}
 use Rattle.bank.specs.Calls.{Call, opens, rated, move, take_back, day_ends, balance, statement, sums, taken_so_far, garbled, Limits}
 use Rattle.bank.specs.Promise.{asks}

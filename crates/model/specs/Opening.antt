@@ -1,5 +1,5 @@
 -- What opening can rely on: which limits a device has, and what it can ask of a device before it works on it. Assumes nothing: these are definitions.
-use Rattle.std.specs.Prelude.{◌≡◌, ℕ, suc, ◌+◌, ◌<◌, ◌≤◌, Bool, true, false, ◌&&◌, leb, List, [], ◌∷◌, length, replicate, ◌==◌, nat_le, nat_lt}
+use Rattle.std.specs.Prelude.{◌≡◌, ℕ, suc, ◌+◌, ◌<◌, ◌≤◌, Bool, true, ◌&&◌, leb, List, [], ◌∷◌, length, replicate, ◌==◌, nat_le, nat_lt}
 use Rattle.bank.specs.Book.{Booking}
 use Rattle.bank.specs.Calls.{Call, Limits, fits, ran, new_bank}
 use Rattle.bank.specs.Device.{Device}
@@ -7,7 +7,7 @@ use Rattle.bank.specs.Promise.{readable, room}
 use Rattle.model.specs.First.{first_call, first_program, FirstReading}
 use Rattle.model.specs.Register.{Dated, Register, new_register}
 use Rattle.model.specs.JournalBlock.{head_in, limits_in_lem, headed, own, epoch_in}
-use Rattle.model.specs.Snapshot.{Counts, counts_row, counts_of, limits_of, area_blocks, restore}
+use Rattle.model.specs.Snapshot.{counts_row, counts_of, limits_of, area_blocks, restore}
 use Rattle.model.specs.Whole.{whole_program, WholeReading}
 use Rattle.device.specs.Device.{pick}
 use Rattle.device.specs.Book.{every}

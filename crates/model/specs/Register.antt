@@ -1,6 +1,6 @@
 -- The bank with its rates in the order in which they were set, over all accounts: the bank itself has only each account's, and a snapshot of it lists them so. Assumes nothing:
 -- these are definitions.
-use Rattle.std.specs.Prelude.{ℕ, Bool, true, false, List, [], ◌∷◌, ◌++◌, length, ◌==◌}
+use Rattle.std.specs.Prelude.{ℕ, List, [], ◌∷◌, ◌++◌, length, ◌==◌}
 use Rattle.bank.specs.Book.{pick, Bank}
 use Rattle.bank.specs.Calls.{Call, opens, rated, move, take_back, day_ends, balance, statement, sums, taken_so_far, garbled, Answer, Limits, turned, after, answer, new_bank}
 use Rattle.device.specs.Book.{Book}

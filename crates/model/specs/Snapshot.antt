@@ -1,7 +1,7 @@
 -- A snapshot of the book, in tables of rows of 32 bytes, 16 to a block, at offsets that follow from the limits: a first block with the day and the counts, accounts, rates, bookings.
 -- Only blocks that hold rows are written, and only so many rows are read. Assumes nothing: these are definitions.
-use Rattle.std.specs.Prelude.{ℕ, zero, suc, ◌+◌, ◌-◌, ◌*◌, ◌/◌, Bool, true, false, ◌&&◌, List, [], ◌∷◌, length, ◌==◌, nat_lt, slice_index}
-use Rattle.bank.specs.Book.{pick, Rate, Account, Booking, Bank}
+use Rattle.std.specs.Prelude.{ℕ, suc, ◌+◌, ◌-◌, ◌/◌, Bool, true, List, [], ◌∷◌, length, ◌==◌, nat_lt, slice_index}
+use Rattle.bank.specs.Book.{pick, Rate, Account, Booking}
 use Rattle.bank.specs.Calls.{Call, Limits}
 use Rattle.bank.specs.Promise.{room}
 use Rattle.model.specs.Register.{Dated, Register}

@@ -1,6 +1,6 @@
 -- A device in lent bytes, read block by block.
-use Rattle.std.proofs.Common.{◌≡◌, ℕ, zero, suc, ◌+◌, ◌*◌, ◌<◌, ◌≤◌, Bool, true, false, not, ◌&&◌, ◌||◌, eqb, ltb, leb, ◌⊎◌, List, [], ◌∷◌, ◌++◌, length, sym, refl, ap, ◌∙◌, subst, inl, inr, append_assoc, append-nil, add-one, arith}
-use Rattle.std.proofs.lemmas.Bool.{and_parts, true≢false, lt-ltb, ne_eqb, eqb-false, cases_eq}
+use Rattle.std.proofs.Common.{◌≡◌, ℕ, zero, suc, ◌<◌, ◌≤◌, Bool, true, false, not, ◌&&◌, eqb, ltb, List, [], ◌∷◌, ◌++◌, length, sym, refl, ap, ◌∙◌, subst, inl, inr, append_assoc, append-nil, add-one, arith}
+use Rattle.std.proofs.lemmas.Bool.{and_parts, true≢false, lt-ltb, eqb-false, cases_eq}
 use Rattle.device.specs.Device.{pick, Device}
 use Rattle.device.specs.Journal.{gather_each, gather}
 use Rattle.device.specs.Rows.{rows_at, rows_in}
@@ -9,8 +9,8 @@ use Rattle.device.proofs.Resident.{how_many_is}
 use Rattle.bank.specs.Calls.{Call, Limits, new_bank}
 use Rattle.device.specs.Book.{ran_by}
 use Rattle.model.specs.Core.{book}
-use Rattle.bank.specs.Promise.{allowed, room}
-use Rattle.model.specs.First.{first_program, FirstReading}
+use Rattle.bank.specs.Promise.{room}
+use Rattle.model.specs.First.{first_program}
 use Rattle.model.specs.JournalBlock.{call_row, head_in, headed, own, calls_in}
 use Rattle.blocks.specs.Blocks.{device_of}
 use Rattle.blocks.proofs.Blocks.{device_whole}

@@ -1,23 +1,23 @@
 -- Blocks that are read while a session is opened.
-use Rattle.std.proofs.Common.{◌≡◌, ℕ, ◌+◌, ◌*◌, ◌<◌, ◌≤◌, max, Bool, true, false, ◌&&◌, eqb, ltb, leb, List, [], ◌∷◌, ◌++◌, length, take, Some, None, Option, sym, refl, ap, ◌∙◌, subst, arith}
+use Rattle.std.proofs.Common.{◌≡◌, ℕ, ◌+◌, ◌*◌, ◌<◌, ◌≤◌, max, Bool, true, false, ◌&&◌, ltb, leb, List, ◌++◌, Some, None, Option, sym, refl, ap, ◌∙◌, subst, arith}
 use Rattle.std.proofs.lemmas.Bool.{and_parts, true≢false, le-leb, eq-eqb}
 use Rattle.device.specs.Device.{pick}
 use Rattle.device.specs.Rows.{rows_in}
 use Rattle.bank.specs.Calls.{Call, Limits}
-use Rattle.bank.specs.Promise.{allowed, room}
+use Rattle.bank.specs.Promise.{allowed}
 use Rattle.columns.specs.Sizes.{cents_for, numbers_for}
 use Rattle.ledger.specs.Opened.{misfit as ledger-misfit}
 use Rattle.ledger.specs.declared.opening.Misfit.TheVariants.{Memory, Bounds}
 use Rattle.model.specs.JournalBlock.{call_row}
-use Rattle.ledger.specs.Meaning.{bank, limits}
+use Rattle.ledger.specs.Meaning.{limits}
 use Rattle.journal.specs.declared.journal.Journal.{Journal}
 use Rattle.journal.specs.Tail.{bounds, Sound, Stands}
-use Rattle.journal.specs.Recovery.{accepts, accepts_next, next_rows, rows_of, Fit, Took, TakenAfter}
+use Rattle.journal.specs.Recovery.{accepts, accepts_next, next_rows, rows_of, Took}
 use Rattle.journal.proofs.Accepts.{accepted_so}
 use Rattle.session.specs.declared.Session.{Session}
 use Rattle.session.specs.declared.opening.Opening.{Opening}
 use Rattle.session.specs.Session.{At, Joined, Ready}
-use Rattle.session.specs.Replay.{Grown, KnownRows}
+use Rattle.session.specs.Replay.{Grown}
 use Rattle.session.specs.Opening.{Advanced, misfit}
 
 -- a session whose journal has read a block

@@ -1,5 +1,5 @@
 -- A row of bytes is a call that fields can carry, or none.
-use Rattle.std.proofs.Common.{◌≡◌, ℕ, zero, suc, ◌^◌, ◌<◌, true, List, [], ◌∷◌, length, get_or, refl, arith, lt-ltb}
+use Rattle.std.proofs.Common.{◌≡◌, ℕ, suc, ◌^◌, ◌<◌, true, List, [], ◌∷◌, length, get_or, refl, lt-ltb}
 use Rattle.std.proofs.lemmas.Bool.{and_from}
 use Rattle.device.specs.Device.{all_bytes}
 use Rattle.bank.specs.Promise.{readable}

@@ -1,7 +1,6 @@
 -- Calls of a journal that are taken again.
-use Rattle.std.proofs.Common.{◌≡◌, ℕ, zero, suc, ◌+◌, ◌*◌, ◌<◌, ◌≤◌, Bool, true, false, ◌&&◌, List, [], ◌∷◌, ◌++◌, length, get_or, take, drop, sym, refl, ap, ◌∙◌, subst, append_assoc, append-nil, arith, length-append}
+use Rattle.std.proofs.Common.{◌≡◌, ℕ, zero, suc, ◌+◌, ◌<◌, ◌≤◌, Bool, true, false, ◌&&◌, List, [], ◌∷◌, ◌++◌, length, get_or, take, drop, sym, refl, ap, ◌∙◌, subst, append_assoc, append-nil, arith, length-append}
 use Rattle.std.proofs.lemmas.List.{take_more}
-use Rattle.std.proofs.lemmas.Bool.{and_parts, and_from}
 use Rattle.device.specs.Book.{ran_by}
 use Rattle.device.specs.Journal.{takes}
 use Rattle.device.specs.Rows.{Row, thing_in, rows_at, rows_in}
@@ -21,7 +20,7 @@ use Rattle.journal.specs.Recovery.{TakenAfter}
 use Rattle.journal.proofs.Accepts.{row_in}
 use Rattle.session.specs.declared.Session.{Session}
 use Rattle.session.specs.Session.{At, Ready}
-use Rattle.session.specs.Replay.{Grown, KnownRows, row_call}
+use Rattle.session.specs.Replay.{Grown, row_call}
 use Rattle.session.proofs.Steps.{after_bank, taken_ready}
 
 -- one call more

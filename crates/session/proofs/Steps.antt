@@ -1,14 +1,12 @@
 -- What a call leaves in memory, and what is to be done for it, are the program's.
-use Rattle.std.proofs.Common.{◌≡◌, ℕ, suc, ◌+◌, ◌*◌, ◌/◌, ◌<◌, ◌≤◌, Bool, true, false, not, ◌&&◌, List, [], ◌∷◌, ◌++◌, length, take, sym, refl, ap, ◌∙◌, subst, add-one, arith}
+use Rattle.std.proofs.Common.{◌≡◌, ℕ, suc, ◌*◌, ◌/◌, ◌<◌, Bool, true, false, ◌&&◌, [], ◌∷◌, ◌++◌, length, take, sym, refl, ap, ◌∙◌, subst, add-one, arith}
 use Rattle.std.proofs.lemmas.Bool.{and_parts, true≢false}
 use Rattle.device.specs.Device.{pick, write, flush, say}
-use Rattle.device.specs.Resident.{Memory}
-use Rattle.bank.specs.Book.{Bank}
 use Rattle.bank.specs.Calls.{Call, garbled, Limits, after, answer, refused}
 use Rattle.bank.specs.Calls.{Answer as Told}
 use Rattle.bank.specs.Checks.{check, own_checks}
 use Rattle.bank.specs.Count.{changes}
-use Rattle.bank.specs.Promise.{readable, plain, asks, allowed, room}
+use Rattle.bank.specs.Promise.{readable, plain, room}
 use Rattle.bank.specs.Room.{has_room}
 use Rattle.bank.proofs.Refusals.{failing}
 use Rattle.model.specs.First.{first_call, first_program, not_yet, size}
@@ -25,7 +23,7 @@ use Rattle.ledger.specs.declared.Ledger.{Ledger}
 use Rattle.desk.specs.Desk.{Kept, ServedFirst}
 use Rattle.desk.proofs.Serving.{begun, asked_turned, first_asked}
 use Rattle.journal.specs.declared.journal.Journal.{Journal}
-use Rattle.journal.specs.Tail.{bounds, tail, block_with, Sound, Alike, Appended}
+use Rattle.journal.specs.Tail.{bounds, tail, Sound, Appended}
 use Rattle.session.specs.declared.Session.{Session}
 use Rattle.session.specs.declared.Stage.TheVariants.{Saying, Writing}
 use Rattle.session.specs.Session.{memory, left, answer_of_lem, Joined, Ready}

@@ -1,5 +1,5 @@
 -- Taking the calls of a journal again, row by row. Assumes nothing: these are definitions.
-use Rattle.std.specs.Prelude.{◌≡◌, ℕ, ◌+◌, ◌*◌, ◌<◌, ◌≤◌, true, ◌&&◌, List, [], ◌∷◌, ◌++◌, length, slice_index_or}
+use Rattle.std.specs.Prelude.{◌≡◌, ℕ, ◌+◌, ◌*◌, ◌<◌, ◌≤◌, List, ◌++◌, length, slice_index_or}
 use Rattle.device.specs.Rows.{rows_in}
 use Rattle.bank.specs.Calls.{Call, day_ends, Limits}
 use Rattle.model.specs.JournalBlock.{call_row}

@@ -1,10 +1,10 @@
 -- A session as the first stage's program: what it holds in memory is the program's state, and what it still has to do are the program's acts. Assumes nothing: these are definitions.
-use Rattle.std.specs.Prelude.{◌≡◌, ℕ, ◌+◌, ◌≤◌, List, [], ◌∷◌, ◌++◌, length, take}
+use Rattle.std.specs.Prelude.{◌≡◌, ℕ, ◌+◌, ◌≤◌, List, [], ◌∷◌, length, take}
 use Rattle.device.specs.Device.{write, flush, say}
 use Rattle.device.specs.Book.{ran_by}
 use Rattle.device.specs.Resident.{Memory}
 use Rattle.bank.specs.Book.{Bank}
-use Rattle.bank.specs.Calls.{Call, Limits, new_bank}
+use Rattle.bank.specs.Calls.{Call, new_bank}
 use Rattle.bank.specs.Calls.{Answer as Reply}
 use Rattle.bank.specs.Device.{Act}
 use Rattle.bank.specs.Promise.{room}

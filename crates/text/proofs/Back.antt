@@ -1,5 +1,5 @@
 -- Reading a line that was written gives the row that it was written from.
-use Rattle.std.proofs.Common.{◌≡◌, ℕ, zero, suc, ◌+◌, ◌<◌, ◌≤◌, Bool, true, false, not, ◌&&◌, eqb, ltb, leb, List, [], ◌∷◌, ◌++◌, map, length, get_or, take, drop, Some, None, codes, decimal, Option, sym, refl, ap, ◌∙◌, arith, ltb-true, lt-ltb, ne_eqb, leb-true}
+use Rattle.std.proofs.Common.{◌≡◌, ℕ, zero, suc, ◌+◌, ◌<◌, ◌≤◌, Bool, true, false, not, ◌&&◌, eqb, ltb, leb, List, [], ◌∷◌, map, length, get_or, take, drop, Some, None, codes, decimal, Option, sym, refl, ap, ◌∙◌, arith, ltb-true, lt-ltb, ne_eqb, leb-true}
 use borrow.Author.Tests.{not-true}
 use Rattle.std.specs.Char.{is_ascii_digit}
 use Rattle.std.specs.Str.{all_ascii_digits, bytes_eq}
@@ -10,14 +10,11 @@ use Rattle.bank.specs.Book.{pick}
 use Rattle.bank.specs.Promise.{carries, readable}
 use Rattle.bank.proofs.Limited.{never}
 use Rattle.wire.specs.Bytes.{form}
-use Rattle.wire.specs.Format.{written_call}
-use Rattle.wire.specs.Meaning.{meant}
-use Rattle.wire.specs.declared.call.Call.{Call}
 use Rattle.wire.specs.declared.call.Call.TheVariants.{Open, Rate, Move, TakeBack, DayEnds, Balance, Statement, Sums, Taken}
 use Rattle.text.specs.Words.{number_in, spelled, words, words_on}
-use Rattle.text.specs.Lines.{ReadsNumbers, ReadsWords, all_carried, all_numbers, by_forms, call_forms, call_line, few_numbers, filled, followed, marks, matched, number_line, numbers_by_lem, numbers_in_lem, or_else, row_in, row_of_numbers}
+use Rattle.text.specs.Lines.{ReadsNumbers, ReadsWords, all_carried, all_numbers, by_forms, call_forms, few_numbers, filled, followed, marks, matched, numbers_by_lem, numbers_in_lem, or_else, row_in, row_of_numbers}
 use Rattle.text.proofs.Counts.{few}
-use Rattle.text.proofs.Spelled.{Word, Words, none, one, decimal_digits, decimal_read, decimal_word, words_spelled, words_whole}
+use Rattle.text.proofs.Spelled.{Words, none, one, decimal_digits, decimal_read, decimal_word, words_spelled, words_whole}
 
 -- a field that eight bytes can carry
 small : (n : ℕ) → carries n ≡ true → n < 18446744073709551616

@@ -1,4 +1,4 @@
-use Rattle.std.proofs.Common.{◌≡◌, ℕ, true, false, ◌&&◌, sym, refl, ap, ◌∙◌, subst}
+use Rattle.std.proofs.Common.{◌≡◌, ℕ, false, ◌&&◌, sym, refl, ap, subst}
 use Rattle.std.proofs.lemmas.Bool.{and_right}
 use Rattle.bank.specs.Calls.{Answer, balance}
 use Rattle.bank.specs.Promise.{asks, plain}

@@ -1,4 +1,4 @@
-use Rattle.std.proofs.Common.{◌≡◌, ℕ, Bool, true, false, sym, refl, ap, ◌∙◌}
+use Rattle.std.proofs.Common.{◌≡◌, ℕ, Bool, false, sym, refl, ap, ◌∙◌}
 use Rattle.bank.specs.Promise.{plain}
 use Rattle.wire.specs.Meaning.{meant}
 use Rattle.wire.specs.declared.call.Call.{Call}

@@ -1,5 +1,4 @@
-use Rattle.std.proofs.Common.{◌≡◌, ℕ, true, false, ◌&&◌, sym, refl, ap, ◌∙◌}
-use Rattle.std.proofs.lemmas.Bool.{and_right, true≢false}
+use Rattle.std.proofs.Common.{◌≡◌, ℕ, true, ◌&&◌, sym, refl, ap, ◌∙◌}
 use Rattle.bank.specs.Promise.{asks, plain}
 use Rattle.wire.specs.Meaning.{meant}
 use Rattle.wire.specs.declared.call.Call.{Call}

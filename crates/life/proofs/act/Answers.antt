@@ -1,4 +1,4 @@
-use Rattle.std.proofs.Common.{◌≡◌, sym, refl, ap, ◌∙◌}
+use Rattle.std.proofs.Common.{◌≡◌, refl}
 use Rattle.wire.specs.Answered.{written_answer}
 use Rattle.session.specs.Session.{answer_of_lem}
 use Rattle.life.proofs.Saying.{said_bytes, said_world, said_fits}

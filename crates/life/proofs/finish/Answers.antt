@@ -1,4 +1,4 @@
-use Rattle.std.proofs.Common.{◌≡◌, List, sym, refl, ◌∙◌, subst, arith}
+use Rattle.std.proofs.Common.{List, sym, refl, ◌∙◌, subst, arith}
 use Rattle.bank.specs.Device.{Act}
 use Rattle.session.specs.Session.{left}
 use Rattle.life.specs.Life.{world, space, Fits}

@@ -1,6 +1,6 @@
 use Rattle.std.proofs.Common.{◌≡◌, ◌-◌, length, take}
 use Rattle.sim.specs.Sims.{Sound, room}
-use Rattle.session.specs.Session.{left, Same, Ready}
+use Rattle.session.specs.Session.{left, Same}
 use Rattle.life.specs.Life.{world, after_acts, space, FitsOn, Listens, Behind}
 use Rattle.life.proofs.finish.Given as goal
 

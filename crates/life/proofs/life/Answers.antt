@@ -1,13 +1,11 @@
-use Rattle.std.proofs.Common.{◌≡◌, ℕ, ◌*◌, ◌/◌, ◌<◌, ◌≤◌, true, false, List, length, sym, refl, ap, ◌∙◌, subst, arith}
+use Rattle.std.proofs.Common.{◌≡◌, ◌*◌, ◌<◌, ◌≤◌, true, false, length, sym, refl, ◌∙◌, subst, arith}
 use Rattle.bank.specs.Calls.{Limits}
 use Rattle.bank.specs.Promise.{room}
-use Rattle.model.specs.First.{FirstReading}
 use Rattle.model.proofs.First.{first_core_by, first_lives}
 use Rattle.model.proofs.Flushes.{first_flushes_exact}
 use Rattle.columns.specs.Sizes.{limits_of}
-use Rattle.blocks.specs.Blocks.{device_of}
 use Rattle.ledger.specs.Meaning.{limits}
-use Rattle.life.specs.Life.{has_room, Lived}
+use Rattle.life.specs.Life.{Lived}
 use Rattle.life.proofs.Cuts.{keeps_the_book}
 use Rattle.life.proofs.Endings.{refused_opening, refused_room, all_fits, refused_device, no_book}
 use Rattle.life.proofs.life.Goals as goal

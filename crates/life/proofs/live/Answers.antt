@@ -1,9 +1,9 @@
-use Rattle.std.proofs.Common.{◌≡◌, ℕ, ◌+◌, ◌-◌, ◌*◌, ◌/◌, ◌<◌, ◌≤◌, length, get_or, sym, refl, ap, ◌∙◌, arith}
+use Rattle.std.proofs.Common.{ℕ, ◌+◌, ◌-◌, ◌*◌, ◌/◌, ◌<◌, ◌≤◌, length, sym, refl, ap, ◌∙◌, arith}
 use Rattle.bank.specs.Calls.{Limits}
 use Rattle.bank.specs.Promise.{room}
 use Rattle.ledger.specs.Meaning.{limits}
 use Rattle.session.specs.Session.{memory}
-use Rattle.life.specs.Life.{world, space, free_in}
+use Rattle.life.specs.Life.{world, space}
 use Rattle.life.proofs.Answers.{behind_none, behind_more}
 use Rattle.life.proofs.Sameness.{memory_same, limits_same, ready_same}
 use Rattle.life.proofs.Calling.{call_fits, lived_more, lived_all, lived_out}

@@ -1,4 +1,4 @@
-use Rattle.std.proofs.Common.{◌≡◌, sym, refl, ap, ◌∙◌, subst}
+use Rattle.std.proofs.Common.{◌≡◌, refl, ap, subst}
 use Rattle.bank.specs.Book.{Account}
 use Rattle.bank.specs.Builders.{new_account}
 use Rattle.bank.specs.Calls.{opens, number, told}

@@ -1,7 +1,6 @@
 -- Each exit is one check of the list.
-use Rattle.std.proofs.Common.{◌≡◌, sym, refl, ap, ◌∙◌, subst}
+use Rattle.std.proofs.Common.{◌≡◌, refl, subst}
 use Rattle.std.proofs.lemmas.Bool.{lt-ltb, le-ltb}
-use Rattle.bank.specs.Book.{Rate}
 use Rattle.bank.specs.Calls.{rated, told}
 use Rattle.bank.specs.Effects.{Effect, rates, effects}
 use Rattle.bank.specs.Promise.{asks}

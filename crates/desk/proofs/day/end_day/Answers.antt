@@ -1,5 +1,5 @@
 -- Each exit is one check of the list.
-use Rattle.std.proofs.Common.{◌≡◌, sym, refl, ap, ◌∙◌}
+use Rattle.std.proofs.Common.{sym, refl, ap, ◌∙◌}
 use Rattle.bank.specs.Calls.{day_ends, number}
 use Rattle.bank.specs.Effects.{turns}
 use Rattle.bank.specs.Promise.{asks}

@@ -1,13 +1,13 @@
 -- Each exit is one check of the list.
-use Rattle.std.proofs.Common.{◌≡◌, ℕ, ◌+◌, ◌<◌, true, false, ◌&&◌, eqb, ltb, leb, length, sym, refl, ap, ◌∙◌, subst}
+use Rattle.std.proofs.Common.{◌≡◌, refl, ap, subst}
 use Rattle.std.proofs.lemmas.Bool.{lt-ltb, le-ltb}
 use Rattle.bank.specs.Book.{Booking}
-use Rattle.bank.specs.Builders.{ordered_booking, early_enough}
-use Rattle.bank.specs.Calls.{move, number, told, enough, ordered}
+use Rattle.bank.specs.Builders.{ordered_booking}
+use Rattle.bank.specs.Calls.{move, number, told}
 use Rattle.bank.specs.Effects.{books, effects}
 use Rattle.bank.specs.Promise.{asks}
 use Rattle.model.specs.Register.{sets}
-use Rattle.ledger.specs.Meaning.{bank, limits}
+use Rattle.ledger.specs.Meaning.{bank}
 use Rattle.ledger.specs.Whole.{Made}
 use Rattle.desk.proofs.Serving.{served_made}
 use Rattle.desk.proofs.Orders.{bad_amount, no_payer, no_payee, same_account, bad_day, too_little, no_room, passes}

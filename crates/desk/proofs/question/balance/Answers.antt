@@ -1,6 +1,6 @@
-use Rattle.std.proofs.Common.{◌≡◌, sym, refl, ap, ◌∙◌}
+use Rattle.std.proofs.Common.{refl}
 use Rattle.std.proofs.lemmas.Bool.{lt-ltb, le-ltb, le-leb, lt-leb}
-use Rattle.bank.specs.Calls.{balance, amounts, told}
+use Rattle.bank.specs.Calls.{balance, told}
 use Rattle.bank.specs.Promise.{asks}
 use Rattle.desk.proofs.Serving.{asked_taken}
 use Rattle.desk.proofs.Questions.{no_account, not_known, passes}

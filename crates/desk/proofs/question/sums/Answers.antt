@@ -1,5 +1,5 @@
-use Rattle.std.proofs.Common.{◌≡◌, refl, ap}
-use Rattle.bank.specs.Calls.{sums, amounts, told}
+use Rattle.std.proofs.Common.{refl}
+use Rattle.bank.specs.Calls.{sums, told}
 use Rattle.bank.specs.Promise.{asks}
 use Rattle.desk.proofs.Serving.{asked_taken}
 use Rattle.desk.proofs.Questions.{sums_pass}

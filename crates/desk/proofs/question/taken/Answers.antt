@@ -1,4 +1,4 @@
-use Rattle.std.proofs.Common.{◌≡◌, refl, ap}
+use Rattle.std.proofs.Common.{refl, ap}
 use Rattle.bank.specs.Calls.{taken_so_far, number, told}
 use Rattle.bank.specs.Promise.{asks}
 use Rattle.desk.proofs.Serving.{asked_taken}

@@ -1,13 +1,12 @@
 -- Each exit is one check of the list.
-use Rattle.std.proofs.Common.{◌≡◌, sym, refl, ap, ◌∙◌, subst}
+use Rattle.std.proofs.Common.{refl, subst}
 use Rattle.bank.specs.Calls.{take_back, told}
-use Rattle.bank.specs.Effects.{Effect, marks, effects}
+use Rattle.bank.specs.Effects.{marks, effects}
 use Rattle.bank.specs.Promise.{asks}
 use Rattle.model.specs.Register.{sets}
-use Rattle.ledger.specs.Meaning.{bank}
 use Rattle.ledger.specs.Whole.{Made}
 use Rattle.desk.proofs.Serving.{served_made}
-use Rattle.desk.proofs.Backs.{no_booking, passes, back_there, back_open}
+use Rattle.desk.proofs.Backs.{no_booking, passes}
 use Rattle.desk.proofs.taking_back.take_back.Goals as goal
 
 pub returns-in_default : goal.returns-in_default

@@ -1,4 +1,4 @@
-use Rattle.std.proofs.Common.{refl, arith}
+use Rattle.std.proofs.Common.{arith}
 use Rattle.session.proofs.Readable.{row_readable}
 use Rattle.life.proofs.heard.longest_answer.Goals as goal
 

@@ -1,11 +1,7 @@
-use Rattle.std.proofs.Common.{◌≡◌, ℕ, ◌*◌, ◌/◌, ◌<◌, Bool, true, false, List, [], length, sym, refl, ap, ◌∙◌, subst, arith}
-use Rattle.bank.specs.Calls.{Call}
-use Rattle.bank.specs.Promise.{readable}
-use Rattle.model.specs.JournalBlock.{stored}
+use Rattle.std.proofs.Common.{◌≡◌, ◌*◌, ◌/◌, ◌<◌, Bool, true, false, [], sym, refl, ap, ◌∙◌, subst, arith}
 use Rattle.wire.specs.Answered.{answered}
 use Rattle.wire.specs.Format.{read_call_lem}
 use Rattle.wire.specs.Meaning.{meant}
-use Rattle.ledger.specs.declared.Ledger.{Ledger}
 use Rattle.ledger.specs.Meaning.{bank, limits}
 use Rattle.desk.specs.Desk.{ServedFirst}
 use Rattle.journal.specs.declared.journal.Journal.{Journal}

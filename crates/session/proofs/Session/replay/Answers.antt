@@ -1,4 +1,4 @@
-use Rattle.std.proofs.Common.{◌≡◌, Bool, true, false, List, [], sym, refl, ap, ◌∙◌, subst}
+use Rattle.std.proofs.Common.{◌≡◌, Bool, true, [], refl, subst}
 use Rattle.wire.specs.Answered.{answered}
 use Rattle.wire.specs.Meaning.{meant}
 use Rattle.desk.specs.Desk.{ServedFirst}

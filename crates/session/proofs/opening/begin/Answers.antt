@@ -1,4 +1,4 @@
-use Rattle.std.proofs.Common.{◌≡◌, sym, refl, ap, ◌∙◌, arith}
+use Rattle.std.proofs.Common.{sym, refl, ap, ◌∙◌, arith}
 use Rattle.device.specs.Book.{ran_by}
 use Rattle.bank.specs.Promise.{room}
 use Rattle.model.specs.First.{size}

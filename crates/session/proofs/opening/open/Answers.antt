@@ -1,4 +1,4 @@
-use Rattle.std.proofs.Common.{◌≡◌, true, sym, refl, ap, ◌∙◌, subst, arith}
+use Rattle.std.proofs.Common.{◌≡◌, true, sym, ◌∙◌, arith}
 use Rattle.bank.specs.Promise.{allowed}
 use Rattle.columns.specs.Sizes.{limits_of}
 use Rattle.session.proofs.Openings.{nothing_misfits}

@@ -1,6 +1,5 @@
-use Rattle.std.proofs.Common.{◌≡◌, ℕ, ◌≤◌, List, [], ◌∷◌, ◌++◌, length, take, drop, sym, refl, ap, ◌∙◌, append-nil, arith}
-use Rattle.wire.specs.Answered.{answered, answer_head, written_answer}
-use Rattle.session.proofs.Replies.{plain_short, plain_head, taken_front}
+use Rattle.std.proofs.Common.{[], arith}
+use Rattle.session.proofs.Replies.{plain_short, taken_front}
 use Rattle.session.proofs.reply.write_plain.Goals as goal
 
 pub unreachable-requires : goal.unreachable-requires

@@ -1,4 +1,4 @@
-use Rattle.std.proofs.Common.{length, sym, ap, ◌∙◌, arith}
+use Rattle.std.proofs.Common.{length, ap, arith}
 use Rattle.text.specs.Words.{words}
 use Rattle.text.proofs.Counts.{few_words, form_found, form_none, form_passed}
 use Rattle.text.proofs.line.in_words.Goals as goal

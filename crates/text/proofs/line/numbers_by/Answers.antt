@@ -1,5 +1,4 @@
 use Rattle.std.proofs.Common.{length, ap, ◌∙◌, arith}
-use Rattle.text.specs.Words.{words}
 use Rattle.text.specs.Lines.{found}
 use Rattle.text.proofs.Forms.{all_read, line_long, line_short, more_matched, unmatched}
 use Rattle.text.proofs.line.numbers_by.Goals as goal

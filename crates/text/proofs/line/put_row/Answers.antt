@@ -1,4 +1,4 @@
-use Rattle.std.proofs.Common.{◌≡◌, ◌-◌, ◌<◌, ◌≤◌, length, get_or, take, drop, set, replicate, refl, ◌∙◌, arith, length-drop, length-set, length-take}
+use Rattle.std.proofs.Common.{◌≡◌, ◌-◌, ◌<◌, length, get_or, take, drop, set, replicate, refl, arith, length-drop, length-set, length-take}
 use Rattle.text.proofs.Rows.{no_byte, no_first, row_put, row_room, widths_fit}
 use Rattle.text.proofs.line.put_row.Goals as goal
 

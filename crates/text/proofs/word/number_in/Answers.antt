@@ -1,4 +1,4 @@
-use Rattle.std.proofs.Common.{◌∙◌, arith}
+use Rattle.std.proofs.Common.{◌∙◌}
 use Rattle.text.proofs.Digits.{digit_read, digit_unread, digits_read}
 use Rattle.text.proofs.word.number_in.Goals as goal
 

@@ -1,4 +1,4 @@
-use Rattle.std.proofs.Common.{◌≡◌, false, take, drop}
+use Rattle.std.proofs.Common.{◌≡◌, take, drop}
 use Rattle.text.specs.Words.{words, words_on}
 use Rattle.text.proofs.word.word_len.Given as goal
 

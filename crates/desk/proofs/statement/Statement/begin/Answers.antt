@@ -1,5 +1,5 @@
 -- Each exit is one check of the list.
-use Rattle.std.proofs.Common.{◌≡◌, ℕ, drop, sym, refl, ap, ◌∙◌}
+use Rattle.std.proofs.Common.{ℕ, drop, sym, refl, ap, ◌∙◌}
 use Rattle.std.proofs.lemmas.Bool.{lt-ltb, le-ltb}
 use Rattle.bank.specs.Calls.{statement, lines, lines_of}
 use Rattle.bank.specs.Promise.{asks}

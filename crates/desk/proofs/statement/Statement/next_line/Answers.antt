@@ -1,4 +1,4 @@
-use Rattle.std.proofs.Common.{◌≡◌, sym, ◌∙◌, arith}
+use Rattle.std.proofs.Common.{sym, ◌∙◌, arith}
 use Rattle.ledger.specs.Meaning.{bank}
 use Rattle.wire.specs.Booked.{booked}
 use Rattle.desk.proofs.Lines.{kept_order, line_is, line_is_not, line_late, lines_end}

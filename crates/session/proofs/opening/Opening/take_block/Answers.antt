@@ -1,8 +1,7 @@
-use Rattle.std.proofs.Common.{◌≡◌, ℕ, Bool, true, false, List, Some, sym, refl, ap, ◌∙◌, subst, arith}
+use Rattle.std.proofs.Common.{Some, refl}
 use Rattle.journal.specs.Recovery.{Took}
-use Rattle.session.specs.declared.opening.Opening.{Opening}
 use Rattle.session.specs.Session.{Ready}
-use Rattle.session.proofs.Openings.{with_journal, read_ready, has_rows, advances}
+use Rattle.session.proofs.Openings.{read_ready, has_rows, advances}
 use Rattle.session.proofs.opening.Opening.take_block.Goals as goal
 
 pub replay_block-requires : goal.replay_block-requires
