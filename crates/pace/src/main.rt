@@ -8,7 +8,7 @@ ghost use Rattle.session.specs.Opening.{Opens};
 use anyhow::anyhow;
 use blocks::BLOCK;
 use columns::limits::Limits;
-use device::Device;
+use disk::Device;
 use phase::{PHASES, Phase};
 use session::opening::{Opening, open};
 use session::{Next, Session};
@@ -17,7 +17,7 @@ use std::time::{Duration, Instant};
 use wire::answer::most_answer;
 use wire::call::{Call, write_call};
 
-mod device;
+mod disk;
 mod phase;
 
 const USAGE: &str =

@@ -1,5 +1,5 @@
 -- Laws of calls as rows of bytes: what is read from what was written, and what was written where something was read.
-use Rattle.std.proofs.Common.{◌≡◌, ℕ, zero, suc, ◌+◌, ◌-◌, ◌*◌, ◌<◌, ◌≤◌, true, false, ◌&&◌, ltb, List, [], ◌∷◌, ◌++◌, length, get_or, take, drop, replicate, sym, refl, ap, ◌∙◌, subst, inl, inr, arith, length-append, length-drop, le-ltb, lt-ltb}
+use Rattle.std.proofs.Common.{◌≡◌, ℕ, zero, suc, ◌-◌, ◌*◌, ◌<◌, ◌≤◌, true, false, ◌&&◌, ltb, List, [], ◌∷◌, ◌++◌, length, get_or, take, drop, replicate, sym, refl, ap, ◌∙◌, subst, inl, inr, arith, length-append, length-drop, le-ltb, lt-ltb}
 use lib.ListN.{length-replicate}
 use Rattle.std.proofs.lemmas.List.{take_rest, take_all, append-nil, drop_at}
 use Rattle.std.proofs.lemmas.Bool.{and_parts, and_from, cases_lt}

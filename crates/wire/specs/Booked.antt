@@ -1,5 +1,5 @@
 -- What a booking of the code stands for. Assumes nothing: these are definitions.
-use Rattle.std.specs.Prelude.{ℕ, suc, ◌+◌, Some, None, Option}
+use Rattle.std.specs.Prelude.{ℕ, suc, Some, None, Option}
 use Rattle.bank.specs.Book.{Booking as Entry}
 use Rattle.wire.specs.declared.booking.Booking.{Booking}
 use Rattle.wire.specs.declared.booking.Kind.{Kind}
