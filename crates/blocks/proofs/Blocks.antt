@@ -1,12 +1,16 @@
 -- Laws of blocks: what a write to one leaves in it and in the others.
-use Rattle.std.proofs.Common.{◌≡◌, ℕ, ◌+◌, ◌*◌, ◌≤◌, List, ◌++◌, length, take, drop, replicate, sym, refl, ap, ◌∙◌, inl, inr, arith}
+use Rattle.std.proofs.Common.{◌≡◌, ℕ, ◌+◌, ◌-◌, ◌*◌, ◌≤◌, List, ◌++◌, length, take, drop, replicate, sym, ap, ◌∙◌, inl, inr, arith}
 use mathlib.Core.Path.{fun_ext}
 use Rattle.std.proofs.lemmas.Bool.{cases_eq, cases_lt, eq-eqb, ne_eqb}
 use Rattle.std.proofs.lemmas.List.{length-take, length-drop, length-append, take-append-le, drop_all}
 use lib.ListN.{length-replicate}
 use Rattle.device.specs.Device.{put, pick}
 use Rattle.blocks.specs.Blocks.{block, put_block, device_of}
-use Rattle.blocks.proofs.Parts.{with_length, with_rest, with_same, with_before}
+use Rattle.device.proofs.Parts.{with_length, with_rest, with_same, with_before}
+
+-- a block as code hands it on, from its start to its end
+pub block_read : (k : ℕ) (bytes : List ℕ) → take (512 * k + 512 - 512 * k) (drop (512 * k) bytes) ≡ block k bytes
+block_read k bytes = let n : 512 * k + 512 - 512 * k ≡ 512 = omega arith in rw n
 
 -- a block that is there
 pub length_block : (k : ℕ) (bytes : List ℕ) → 512 * k + 512 ≤ length bytes → length (block k bytes) ≡ 512
@@ -21,7 +25,7 @@ device_block k bytes room =
 -- a block behind the end
 pub device_past : (k : ℕ) (bytes : List ℕ) → length bytes ≤ 512 * k → device_of bytes k ≡ replicate 512 0
 unfolding device_of
-device_past k bytes past = ap (λ r. take 512 (r ++ replicate 512 0)) (drop_all (512 * k) bytes past) ∙ refl
+device_past k bytes past = ap (λ r. take 512 (r ++ replicate 512 0)) (drop_all (512 * k) bytes past)
 
 -- every block of it is whole
 pub device_whole : (bytes : List ℕ) (k : ℕ) → length (device_of bytes k) ≡ 512

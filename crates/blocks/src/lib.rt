@@ -7,14 +7,6 @@ ghost use Rattle.blocks.specs.Blocks.{block, put_block, device_of};
 // Bytes in a block.
 pub const BLOCK: usize = 512;
 
-// Copies one part over another that is as long.
-fn fill(part: &mut [u8], from: &[u8])
-    requires { length part.old ≡ length from.now }
-    ensures { part.new ≡ from.now }
-{
-    part.copy_from_slice(from);
-}
-
 // How many whole blocks there are.
 pub fn blocks_in(bytes: &[u8]) -> u64
     ensures { result ≡ length bytes.now / 512 }
@@ -23,6 +15,7 @@ pub fn blocks_in(bytes: &[u8]) -> u64
 }
 
 // Block k, which is there.
+#[tactic(auto, using(crate::proofs::Blocks::block_read, crate::proofs::Blocks::device_block))]
 pub fn block_at(bytes: &[u8], k: usize) -> &[u8]
     requires { 512 * k + 512 ≤ length bytes.now }
     ensures bytes { result.now ≡ block k bytes.now }
@@ -40,5 +33,5 @@ pub fn set_block(bytes: &mut [u8], k: usize, from: &[u8])
     ensures { bytes.new ≡ put_block k from.now bytes.old }
 {
     let at = BLOCK * k;
-    fill(&mut bytes[at..at + BLOCK], from);
+    bytes[at..at + BLOCK].copy_from_slice(from);
 }

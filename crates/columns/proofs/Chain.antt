@@ -103,9 +103,6 @@ linkable_begun c d a m b h l = record {
   links_out = rw l.outgoing.before h.links_out;
 }
 
-pub linkable_less : (c : Chains) (m b n e : ℕ) → n ≤ m → e ≤ b → Linkable c m b → Linkable c n e
-linkable_less c m b n e u v h = record { heads_in = omega arith; links_in = omega arith; heads_out = omega arith; links_out = omega arith }
-
 pub chained_begun : (c d : Chain) (f : ℕ → ℕ) (n m : ℕ) → m < length c.newest.now → Chained c f n m → Begun c d m → ((k : ℕ) → k < n → f k < m) → Chained d f n (m + 1)
 chained_begun c d f n m u h l p = record {
   heads = λ a v. elim (cases_eq a m) [

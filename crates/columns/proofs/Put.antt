@@ -1,6 +1,7 @@
 -- Laws of bookings and rates in columns: one more row, and a row that is marked.
-use Rattle.std.proofs.Common.{◌≡◌, ℕ, zero, suc, ◌+◌, ◌*◌, ◌<◌, ◌≤◌, Bool, eqb, ◌≢◌, [], ◌∷◌, get_or, set, sym, refl, ap, ◌∙◌, inl, inr, arith}
-use Rattle.std.proofs.lemmas.List.{get_or-set_same, get_or-set_other, get_or_append_left, get_or_push}
+use Rattle.std.proofs.Common.{◌≡◌, ℕ, zero, suc, ◌+◌, ◌*◌, ◌<◌, ◌≤◌, Bool, eqb, ◌≢◌, [], ◌∷◌, length, get_or, set, take, sym, refl, ap, ◌∙◌, inl, inr, arith}
+use Rattle.std.proofs.Math.ListN.{get_or-map}
+use Rattle.std.proofs.lemmas.List.{ext_get_or, length-map, length-take-le, get_or-take, get_or-set_same, get_or-set_other, get_or_append_left, get_or_push}
 use Rattle.std.proofs.lemmas.Bool.{cases_eq}
 use Rattle.bank.specs.Book.{pick, Booking}
 use Rattle.bank.specs.Calls.{none_there, marked}
@@ -12,12 +13,12 @@ use Rattle.wire.specs.declared.booking.Booking.{Booking as Entry}
 use Rattle.wire.specs.declared.booking.Kind.{Kind}
 use Rattle.wire.specs.declared.booking.Kind.TheVariants.{Order, Interest}
 use Rattle.columns.specs.Firsts.{first_of}
-use Rattle.columns.specs.Rows.{row, rows, Sound, Appended, Marked}
+use Rattle.columns.specs.Rows.{row, rows, booked_days, Appended, Marked}
 use Rattle.columns.specs.RateRows.{rate_row, Rated, RateAdded}
 use Rattle.columns.specs.declared.bookings.Bookings.{Bookings}
 use Rattle.columns.specs.declared.rates.Rates.{Rates}
 use Rattle.columns.proofs.First.{length_first, get_or_first, first_more, first_none, first_push, first_set}
-use Rattle.columns.proofs.Cell.{cell_same, cell_other, cell_length}
+use Rattle.columns.proofs.Cell.{cell_same, cell_other}
 
 -- a kind read back from its number
 kind_read : (k : Kind) (n : ℕ) → n ≡ kind_number k → pick (eqb n 0) 0 1 ≡ kind_number k
@@ -45,8 +46,8 @@ put_other c d i k b p h =
     let e7 = cell_other _ _ i k _ p.back h in
     cc
 
-put_same : (c d : Bookings) (i : ℕ) (b : Entry) → Sound c → i < c.capacity → Put c d i b → row d i ≡ booked b
-put_same c d i b r h p =
+put_same : (c d : Bookings) (i : ℕ) (b : Entry) → i < c.capacity → Put c d i b → row d i ≡ booked b
+put_same c d i b h p =
     let e1 = cell_same _ _ i _ p.on (omega arith) in
     let e2 = cell_same _ _ i _ p.value (omega arith) in
     let e3 = cell_same _ _ i _ p.from (omega arith) in
@@ -56,31 +57,10 @@ put_same c d i b r h p =
     let e7 = cell_same _ _ i _ p.back (omega arith) in
     cc
 
--- columns stay sound after a booking is put behind the others
-put_sound : (c d : Bookings) (b : Entry) → Sound c → c.count < c.capacity → b.amount ≤ 4000000000000 → Put c d c.count b → d.count ≡ c.count + 1 → d.capacity ≡ c.capacity → Sound d
-put_sound c d b r h small p e f =
+pub put_appended : (c d : Bookings) (b : Entry) → c.count < c.capacity → Put c d c.count b → d.count ≡ c.count + 1 → d.capacity ≡ c.capacity → Appended c d (booked b)
+put_appended c d b h p e f =
     record {
-      count = omega arith;
-      capacity = omega arith;
-      small = λ i u. elim (cases_eq i c.count) [
-        | inl same ↦ rw same (omega (arith, cell_same _ _ c.count _ p.amount (omega arith)))
-        | inr other ↦ omega (arith, cell_other _ _ c.count i _ p.amount other, r.small i (omega arith))
-      ];
-      on = rw f (cell_length _ _ _ _ _ p.on r.on);
-      value = rw f (cell_length _ _ _ _ _ p.value r.value);
-      from = rw f (cell_length _ _ _ _ _ p.from r.from);
-      to = rw f (cell_length _ _ _ _ _ p.to r.to);
-      amount = rw f (cell_length _ _ _ _ _ p.amount r.amount);
-      kind = rw f (cell_length _ _ _ _ _ p.kind r.kind);
-      back = rw f (cell_length _ _ _ _ _ p.back r.back);
-    }
-
-pub put_appended : (c d : Bookings) (b : Entry) → Sound c → c.count < c.capacity → b.amount ≤ 4000000000000 → Put c d c.count b → d.count ≡ c.count + 1 → d.capacity ≡ c.capacity →
-    Appended c d (booked b)
-put_appended c d b r h small p e f =
-    record {
-      rows = ap (first_of (row d)) e ∙ first_push (row c) (row d) c.count (booked b) (λ k u. put_other c d c.count k b p (omega arith)) (put_same c d c.count b r h p);
-      sound = put_sound c d b r h small p e f;
+      rows = ap (first_of (row d)) e ∙ first_push (row c) (row d) c.count (booked b) (λ k u. put_other c d c.count k b p (omega arith)) (put_same c d c.count b h p);
       count = e;
       capacity = f;
     }
@@ -96,8 +76,8 @@ pub record SameButBack (c d : Bookings) : Type 0 where
   pub count : d.count ≡ c.count
   pub capacity : d.capacity ≡ c.capacity
 
-pub put_marked : (c d : Bookings) (i day : ℕ) → Sound c → i < c.count → d.back.now ≡ set c.back.now i (suc day) → SameButBack c d → Marked c d i day
-put_marked c d i day r h e s =
+pub put_marked : (c d : Bookings) (i day : ℕ) → i < c.count → d.back.now ≡ set c.back.now i (suc day) → SameButBack c d → Marked c d i day
+put_marked c d i day h e s =
     let other : (k : ℕ) → k < c.count → k ≢ i → row d k ≡ row c k = λ k u ne. let o = cell_other _ _ i k _ e ne in cc in
     let same : row d i ≡ marked day (get_or (rows c) i none_there) =
     let o = cell_same _ _ i _ e (omega arith) in
@@ -105,18 +85,6 @@ put_marked c d i day r h e s =
     cc in
     record {
       rows = ap (first_of (row d)) s.count ∙ first_set (row c) (row d) c.count i _ h other same;
-      sound = record {
-        count = omega arith;
-        capacity = omega arith;
-        small = λ k u. rw s.amount (r.small k (omega arith));
-        on = rw (s.on, s.capacity) r.on;
-        value = rw (s.value, s.capacity) r.value;
-        from = rw (s.from, s.capacity) r.from;
-        to = rw (s.to, s.capacity) r.to;
-        amount = rw (s.amount, s.capacity) r.amount;
-        kind = rw (s.kind, s.capacity) r.kind;
-        back = rw s.capacity (cell_length _ _ _ _ _ e r.back);
-      };
       count = s.count;
       capacity = s.capacity;
     }
@@ -150,6 +118,15 @@ marked_keeps f same c d i t k p v u =
       | inr q ↦ ap f (marked_other c d i t k p u q)
     ]
 
+-- the days of all rows are the first cells of their column
+pub days_are : (c : Bookings) → take c.count c.on.now ≡ booked_days (rows c)
+days_are c =
+    let m : length (booked_days (rows c)) ≡ c.count = length-map (rows c) (λ (b : Booking). b.on) ∙ length_first (row c) c.count in
+    let l : length (take c.count c.on.now) ≡ c.count = length-take-le c.count c.on.now (omega arith) in
+    ext_get_or 0 _ _ (l ∙ sym m)
+    (λ k u. let v : k < c.count = omega (arith, l) in
+    get_or-take c.count c.on.now k 0 v ∙ sym (get_or-map (λ (b : Booking). b.on) (rows c) k none_there ∙ ap (λ b. b.on) (get_or_first (row c) c.count k none_there v)))
+
 -- sums over the first n rows
 pub tally_more : (p : Booking → Bool) (c : Bookings) (n : ℕ) → tally p (first_of (row c) (n + 1)) ≡ tally p (first_of (row c) n) + pick (p (row c n)) (row c n).amount 0
 tally_more p c n = ap (tally p) (first_more (row c) n) ∙ omega (arith, tally_append p (first_of (row c) n) (row c n ∷ []))
@@ -164,8 +141,8 @@ tally_upto p c (suc n) h =
     omega (arith, e, tally_more p c n, pick_at_most (p (row c n)) (row c n).amount, h n (omega arith), tally_upto p c n (λ i u. h i (omega arith)))
 
 -- no sum over bookings is large
-pub tally_small : (p : Booking → Bool) (c : Bookings) → Sound c → tally p (rows c) ≤ 4000000000000000000
-tally_small p c s = omega (arith, tally_upto p c c.count s.small, s.count, s.capacity)
+pub tally_small : (p : Booking → Bool) (c : Bookings) → tally p (rows c) ≤ 4000000000000000000
+tally_small p c = omega (arith, tally_upto p c c.count c.small)
 
 -- a rate written behind the others
 pub record PutRate (r q : Rates) (x : Dated) : Type 0 where
@@ -177,19 +154,14 @@ pub record PutRate (r q : Rates) (x : Dated) : Type 0 where
 
 put_rated : (r q : Rates) (x : Dated) (n : ℕ) → r.count < r.capacity → PutRate r q x → Rated r n → x.account < n → Rated q n
 put_rated r q x n v f o u = record {
-  count = omega arith;
-  capacity = omega arith;
-  account = rw f.capacity (cell_length _ _ _ _ _ f.account o.account);
-  since = rw f.capacity (cell_length _ _ _ _ _ f.since o.since);
-  rate = rw f.capacity (cell_length _ _ _ _ _ f.rate o.rate);
   owners = λ i w. elim (cases_eq i r.count) [
     | inl z ↦ rw z (omega (arith, cell_same _ _ r.count _ f.account (omega arith)))
     | inr z ↦ omega (arith, cell_other _ _ r.count i _ f.account z, o.owners i (omega (arith, z)))
   ];
 }
 
-pub put_rate_added : (r q : Rates) (x : Dated) (n : ℕ) → Rated r n → r.count < r.capacity → PutRate r q x → RateAdded r q x
-put_rate_added r q x n o v f =
+pub put_rate_added : (r q : Rates) (x : Dated) → r.count < r.capacity → PutRate r q x → RateAdded r q x
+put_rate_added r q x v f =
     let other : (k : ℕ) → k < r.count → rate_row q k ≡ rate_row r k = λ k u.
     let ne : k ≢ r.count = omega arith in
     let e1 = cell_other _ _ r.count k _ f.account ne in

@@ -6,11 +6,11 @@ use Rattle.bank.specs.Book.{pick, Booking}
 use Rattle.bank.specs.Sums.{tally, orders}
 use Rattle.bank.proofs.Tally.{tally_append, tally_set}
 use Rattle.columns.specs.Parts.{live, live_order, live_to, live_from}
-use Rattle.columns.specs.Cells.{limits_in_lem, Roomy, Sums, AccountAdded, Credited, Debited, Summed}
+use Rattle.columns.specs.Cells.{limits_in_lem, Sums, AccountAdded, Credited, Debited}
 use Rattle.columns.specs.declared.accounts.Accounts.{Accounts}
 use Rattle.columns.proofs.First.{first_push}
 use Rattle.columns.specs.Firsts.{first_of}
-use Rattle.columns.proofs.Cell.{cell_same, cell_other, cell_length}
+use Rattle.columns.proofs.Cell.{cell_same, cell_other}
 
 -- a column of sums over the bookings that pass a test, by account
 abbrev Column : (ℕ → Booking → Bool) → ℕ → List ℕ → List Booking → Type 0
@@ -67,22 +67,16 @@ from_back b ne a = grind (arith, nat_tests)
 order_back : (b : Booking) → b.back ≢ 0 → (a : ℕ) → pick (orders a b) b.amount 0 ≡ 0
 order_back b ne a = grind (arith, nat_tests)
 
-pub live_le : (b : Booking) → live b ≤ b.amount
-live_le b = grind (arith, nat_tests)
-
-pub order_le : (b : Booking) → live_order b ≤ b.amount
-order_le b = grind (arith, nat_tests)
-
 -- one more booking
-pub sums_push : (c d : Accounts) (bs : List Booking) (b : Booking) → Roomy c → b.from < c.count → b.to < c.count → Sums c bs → Credited c d b → Sums d (bs ++ (b ∷ []))
-sums_push c d bs b r f t s e = record {
+pub sums_push : (c d : Accounts) (bs : List Booking) (b : Booking) → b.from < c.count → b.to < c.count → Sums c bs → Credited c d b → Sums d (bs ++ (b ∷ []))
+sums_push c d bs b f t s e = record {
   came = λ a u. column_push live_to c.count c.came.now d.came.now b.to (live b) bs b (omega arith) t (gives_to b) e.came s.came a (omega arith);
   left = λ a u. column_push live_from c.count c.left.now d.left.now b.from (live b) bs b (omega arith) f (gives_from b) e.left s.left a (omega arith);
   ordered = λ a u. column_push orders c.count c.ordered.now d.ordered.now b.to (live_order b) bs b (omega arith) t (gives_order b) e.ordered s.ordered a (omega arith);
 }
 
 -- booking i is taken back and is y then
-module _ (c : Accounts) (bs : List Booking) (i : ℕ) (b y none : Booking) (r : Roomy c) (f : b.from < c.count) (t : b.to < c.count) (v : i < length bs) (q : get_or bs i none ≡ b) (z : y.back ≢ 0) (s : Sums c bs) where
+module _ (c : Accounts) (bs : List Booking) (i : ℕ) (b y none : Booking) (f : b.from < c.count) (t : b.to < c.count) (v : i < length bs) (q : get_or bs i none ≡ b) (z : y.back ≢ 0) (s : Sums c bs) where
   pub sums_drop : (d : Accounts) → Debited c d b → Sums d (set bs i y)
   sums_drop d e = record {
     came = λ a u. column_drop live_to c.count c.came.now d.came.now b.to (live b) bs i b y none (omega arith) t v q (gives_to b) (to_back y z) e.came s.came a (omega arith);
@@ -99,33 +93,6 @@ module _ (c : Accounts) (bs : List Booking) (i : ℕ) (b y none : Booking) (r : 
   pub covers_ordered : live_order b ≤ get_or c.ordered.now b.to 0
   covers_ordered = column_covers orders c.count c.ordered.now b.to (live_order b) bs i b y none t v q (gives_order b) (order_back y z) s.ordered
 
-pub roomy_summed : (c d : Accounts) (f t x y z : ℕ) → Roomy c → Summed c d f t x y z → Roomy d
-roomy_summed c d f t x y z r e = record {
-  two = omega arith;
-  count = omega arith;
-  capacity = omega arith;
-  limit = rw (e.limit, e.capacity) r.limit;
-  came = rw e.capacity (cell_length _ _ _ _ _ e.came r.came);
-  left = rw e.capacity (cell_length _ _ _ _ _ e.left r.left);
-  ordered = rw e.capacity (cell_length _ _ _ _ _ e.ordered r.ordered);
-  small = λ a u. rw e.limit (r.small a (omega arith));
-}
-
-pub roomy_added : (c d : Accounts) (l : ℕ) → Roomy c → c.count < c.capacity → l ≤ 100000000000 → AccountAdded c d l → Roomy d
-roomy_added c d l r u h e = record {
-  two = omega arith;
-  count = omega arith;
-  capacity = omega arith;
-  limit = rw e.capacity (cell_length _ _ _ _ _ e.limit r.limit);
-  came = rw e.capacity (cell_length _ _ _ _ _ e.came r.came);
-  left = rw e.capacity (cell_length _ _ _ _ _ e.left r.left);
-  ordered = rw e.capacity (cell_length _ _ _ _ _ e.ordered r.ordered);
-  small = λ a v. elim (cases_eq a c.count) [
-    | inl q ↦ rw q (omega (arith, cell_same _ _ c.count _ e.limit (omega arith)))
-    | inr q ↦ omega (arith, cell_other _ _ c.count a _ e.limit q, r.small a (omega (arith, q)))
-  ];
-}
-
 -- one more account, to and from which no booking goes
 column_added : (p : ℕ → Booking → Bool) (n : ℕ) (xs ys : List ℕ) (bs : List Booking) → n < length xs → ys ≡ set xs n 0 → tally (p n) bs ≡ 0 → Column p n xs bs → Column p (n + 1) ys bs
 column_added p n xs ys bs l e z s a h =
@@ -134,17 +101,17 @@ column_added p n xs ys bs l e z s a h =
       | inr q ↦ cell_other xs ys n a _ e q ∙ s a (omega (arith, q))
     ]
 
-pub sums_added : (c d : Accounts) (l : ℕ) (bs : List Booking) → Roomy c → c.count < c.capacity → AccountAdded c d l →
+pub sums_added : (c d : Accounts) (l : ℕ) (bs : List Booking) → c.count < c.capacity → AccountAdded c d l →
     tally (live_to c.count) bs ≡ 0 → tally (live_from c.count) bs ≡ 0 → tally (orders c.count) bs ≡ 0 → Sums c bs → Sums d bs
-sums_added c d l bs r u e x y z s = record {
+sums_added c d l bs u e x y z s = record {
   came = λ a v. column_added live_to c.count c.came.now d.came.now bs (omega arith) e.came x s.came a (omega arith);
   left = λ a v. column_added live_from c.count c.left.now d.left.now bs (omega arith) e.left y s.left a (omega arith);
   ordered = λ a v. column_added orders c.count c.ordered.now d.ordered.now bs (omega arith) e.ordered z s.ordered a (omega arith);
 }
 
 -- limits after one more account, and where the columns of limits are the same
-pub limits_added : (c d : Accounts) (l : ℕ) → Roomy c → c.count < c.capacity → AccountAdded c d l → limits_in_lem d ≡ limits_in_lem c ++ (l ∷ [])
-limits_added c d l r u e =
+pub limits_added : (c d : Accounts) (l : ℕ) → c.count < c.capacity → AccountAdded c d l → limits_in_lem d ≡ limits_in_lem c ++ (l ∷ [])
+limits_added c d l u e =
     ap (first_of (λ a. get_or d.limit.now a 0)) e.count
     ∙ first_push (λ a. get_or c.limit.now a 0) (λ a. get_or d.limit.now a 0) c.count l (λ k v. cell_other _ _ c.count k _ e.limit (omega arith)) (cell_same _ _ c.count _ e.limit (omega arith))
 

@@ -1,5 +1,5 @@
 -- How accounts lie in lent memory: limits, and the running sums of the bookings that are not taken back. Assumes nothing: these are definitions.
-use Rattle.std.specs.Prelude.{◌≡◌, ℕ, ◌+◌, ◌-◌, ◌<◌, ◌≤◌, List, length, slice_index, slice_set}
+use Rattle.std.specs.Prelude.{◌≡◌, ℕ, ◌+◌, ◌-◌, ◌<◌, List, slice_index, slice_set}
 use Rattle.bank.specs.Book.{Booking}
 use Rattle.bank.specs.Sums.{tally, orders}
 use Rattle.columns.specs.Firsts.{first_of}
@@ -15,17 +15,6 @@ cells c a = record { limit = slice_index c.limit.now a; came = slice_index c.cam
 abbrev pub limits_in_lem : Accounts → List ℕ
 limits_in_lem c = first_of (λ a. slice_index c.limit.now a) c.count
 
--- the columns have room for the capacity, the accounts that are there lie within, the till and the bank's own among them, and no limit passes 10 ^ 11
-pub record Roomy (c : Accounts) : Type 0 where
-  pub two : 2 ≤ c.count
-  pub count : c.count ≤ c.capacity
-  pub capacity : c.capacity ≤ 4096
-  pub limit : c.capacity ≤ length c.limit.now
-  pub came : c.capacity ≤ length c.came.now
-  pub left : c.capacity ≤ length c.left.now
-  pub ordered : c.capacity ≤ length c.ordered.now
-  pub small : (a : ℕ) → a < c.count → slice_index c.limit.now a ≤ 100000000000
-
 -- the running sums are those of the bookings that are not taken back
 pub record Sums (c : Accounts) (bs : List Booking) : Type 0 where
   pub came : (a : ℕ) → a < c.count → slice_index c.came.now a ≡ tally (live_to a) bs
@@ -34,7 +23,6 @@ pub record Sums (c : Accounts) (bs : List Booking) : Type 0 where
 
 -- the first two accounts, and room for n
 pub record NewAccounts (c : Accounts) (n : ℕ) : Type 0 where
-  pub roomy : Roomy c
   pub count : c.count ≡ 2
   pub capacity : c.capacity ≡ n
   pub limit : (a : ℕ) → a < 2 → slice_index c.limit.now a ≡ 0

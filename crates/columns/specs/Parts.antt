@@ -1,15 +1,15 @@
 -- What one booking counts for. Assumes nothing: these are definitions.
-use Rattle.std.specs.Prelude.{ℕ, Bool, ◌&&◌, ◌==◌}
-use Rattle.bank.specs.Book.{pick, Booking}
+use Rattle.std.specs.Prelude.{ℕ, Bool, ◌&&◌, ◌==◌, nat_le}
+use Rattle.bank.specs.Book.{pick, Booking, known}
 use Rattle.bank.specs.Builders.{is_order}
-use Rattle.bank.specs.Sums.{to_by, from_by}
 
--- what it brings to an account, and takes from it, by a value day, as known at the end of day k
-abbrev pub brings : ℕ → ℕ → ℕ → Booking → ℕ
-brings k a d b = pick (to_by k a d b) b.amount 0
+-- does it count for account a on a side, whose account p gives, by a value day, as known at the end of day k
+abbrev pub counts : (Booking → ℕ) → ℕ → ℕ → ℕ → Booking → Bool
+counts p k a d b = known k b && (p b == a && nat_le b.value d)
 
-abbrev pub takes : ℕ → ℕ → ℕ → Booking → ℕ
-takes k a d b = pick (from_by k a d b) b.amount 0
+-- what it moves there
+abbrev pub share : (Booking → ℕ) → ℕ → ℕ → ℕ → Booking → ℕ
+share p k a d b = pick (counts p k a d b) b.amount 0
 
 -- its amount, if it was not taken back
 abbrev pub live : Booking → ℕ

@@ -1,5 +1,5 @@
 -- How rates lie in lent memory, in the order in which they were set. Assumes nothing: these are definitions.
-use Rattle.std.specs.Prelude.{◌≡◌, ℕ, ◌+◌, ◌<◌, ◌≤◌, List, [], ◌∷◌, ◌++◌, length, slice_index}
+use Rattle.std.specs.Prelude.{◌≡◌, ℕ, ◌+◌, ◌<◌, List, [], ◌∷◌, ◌++◌, slice_index}
 use Rattle.model.specs.Register.{Dated}
 use Rattle.columns.specs.Firsts.{first_of}
 use Rattle.columns.specs.declared.rates.Rates.{Rates}
@@ -17,13 +17,8 @@ rate_row r i = record { account = slice_index r.account.now i; since = slice_ind
 abbrev pub rate_rows : Rates → List Dated
 rate_rows r = first_of (rate_row r) r.count
 
--- the columns have room for the capacity, the rates that are there lie within, and each belongs to one of the first n accounts
+-- each rate is of one of the first n accounts
 pub record Rated (r : Rates) (n : ℕ) : Type 0 where
-  pub count : r.count ≤ r.capacity
-  pub capacity : r.capacity ≤ 16384
-  pub account : r.capacity ≤ length r.account.now
-  pub since : r.capacity ≤ length r.since.now
-  pub rate : r.capacity ≤ length r.rate.now
   pub owners : (i : ℕ) → i < r.count → slice_index r.account.now i < n
 
 -- no rate yet, and room for n

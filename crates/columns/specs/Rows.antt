@@ -1,5 +1,5 @@
 -- How bookings lie in lent memory: a column for each field, booking i in cell i of each. Assumes nothing: these are definitions.
-use Rattle.std.specs.Prelude.{◌≡◌, ℕ, ◌+◌, ◌<◌, ◌≤◌, List, [], ◌∷◌, ◌++◌, length, ◌==◌, slice_index, slice_index_or, slice_set}
+use Rattle.std.specs.Prelude.{◌≡◌, ℕ, ◌+◌, List, [], ◌∷◌, ◌++◌, map, ◌==◌, slice_index, slice_index_or, slice_set}
 use Rattle.bank.specs.Book.{pick, Booking}
 use Rattle.bank.specs.Calls.{marked, none_there}
 use Rattle.columns.specs.Firsts.{first_of}
@@ -22,35 +22,23 @@ row c i =
 abbrev pub rows : Bookings → List Booking
 rows c = first_of (row c) c.count
 
--- the columns have room for the capacity, the bookings that are there lie within, and no sum of their amounts passes 2 ^ 62
-pub record Sound (c : Bookings) : Type 0 where
-  pub count : c.count ≤ c.capacity
-  pub capacity : c.capacity ≤ 1000000
-  pub small : (i : ℕ) → i < c.count → slice_index c.amount.now i ≤ 4000000000000
-  pub on : c.capacity ≤ length c.on.now
-  pub value : c.capacity ≤ length c.value.now
-  pub from : c.capacity ≤ length c.from.now
-  pub to : c.capacity ≤ length c.to.now
-  pub amount : c.capacity ≤ length c.amount.now
-  pub kind : c.capacity ≤ length c.kind.now
-  pub back : c.capacity ≤ length c.back.now
+-- the days on which bookings were booked
+abbrev pub booked_days : List Booking → List ℕ
+booked_days bs = map (λ b. b.on) bs
 
 -- no booking yet, and room for n
 pub record NewBookings (c : Bookings) (n : ℕ) : Type 0 where
-  pub sound : Sound c
   pub count : c.count ≡ 0
   pub capacity : c.capacity ≡ n
 
 -- one more booking, the same room
 pub record Appended (c d : Bookings) (b : Booking) : Type 0 where
   pub rows : rows d ≡ rows c ++ (b ∷ [])
-  pub sound : Sound d
   pub count : d.count ≡ c.count + 1
   pub capacity : d.capacity ≡ c.capacity
 
 -- booking i marked as taken back on a day, the others and the room as they were
 pub record Marked (c d : Bookings) (i day : ℕ) : Type 0 where
   pub rows : rows d ≡ slice_set (rows c) i (marked day (slice_index_or (rows c) i none_there))
-  pub sound : Sound d
   pub count : d.count ≡ c.count
   pub capacity : d.capacity ≡ c.capacity

@@ -1,6 +1,5 @@
 // Accounts in lent memory: limits, and running sums of the bookings that are not taken back.
 ghost use Rattle.std.specs.Prelude.{◌≡◌, ℕ, ◌+◌, ◌*◌, ◌^◌, ◌<◌, ◌≤◌, length, nat_le, slice_index};
-ghost use Rattle.columns.specs.Cells.{cells, Roomy, NewAccounts, AccountAdded, Credited, Debited};
 ghost use Rattle.columns.specs.Parts.{live, live_order};
 ghost use Rattle.wire.specs.Booked.{booked};
 
@@ -36,6 +35,14 @@ pub struct Accounts<'a> {
     ordered: &'a mut [u64],
     count: usize,
     capacity: usize,
+    // the till and the bank's own account are there
+    ghost two: { 2 ≤ count },
+    ghost within: { count ≤ capacity },
+    ghost few: { capacity ≤ 4096 },
+    ghost limit_room: { capacity ≤ length limit.now },
+    ghost came_room: { capacity ≤ length came.now },
+    ghost left_room: { capacity ≤ length left.now },
+    ghost ordered_room: { capacity ≤ length ordered.now },
 }
 
 // Clears the cells of the first two accounts.
@@ -43,11 +50,12 @@ fn clear_two(column: &mut [u64])
     requires { 2 ≤ length column.old }
     ensures { (k : ℕ) → k < 2 → slice_index column.new k ≡ 0 }
 {
-    column[0] = 0;
-    column[1] = 0;
+    column[..2].fill(0);
 }
 
 impl<'a> Accounts<'a> {
+    ghost use Rattle.columns.specs.Cells.{NewAccounts};
+
     // Cuts a slice into columns, with the till and the bank's own account in them.
     pub fn lay(cents: &'a mut [u64], capacity: usize) -> Accounts<'a>
         requires two { 2 ≤ capacity }
@@ -74,6 +82,8 @@ impl<'a> Accounts<'a> {
 }
 
 impl Accounts<'_> {
+    ghost use Rattle.columns.specs.Cells.{cells, AccountAdded, Credited, Debited};
+
     // How many there are.
     pub fn count(&self) -> usize
         ensures { result ≡ self.now.count }
@@ -90,7 +100,6 @@ impl Accounts<'_> {
 
     // The cells of account `a`.
     pub fn get(&self, a: usize) -> Account
-        requires roomy { Roomy self.now }
         requires there { a < self.now.count }
         ensures { result ≡ cells self.now a }
     {
@@ -104,7 +113,6 @@ impl Accounts<'_> {
 
     // One more account, with a limit and nothing booked.
     pub fn append(&mut self, limit: u64)
-        requires roomy { Roomy self.old }
         requires space { self.old.count < self.old.capacity }
         ensures { AccountAdded self.old self.new limit }
     {
@@ -118,7 +126,6 @@ impl Accounts<'_> {
 
     // Adds a booking to the running sums of its two accounts.
     pub fn credit(&mut self, b: Booking)
-        requires roomy { Roomy self.old }
         requires from { b.from < self.old.count }
         requires to { b.to < self.old.count }
         requires left { slice_index self.old.left.now b.from + live (booked b) < 2 ^ 64 }
@@ -134,7 +141,6 @@ impl Accounts<'_> {
 
     // Takes a booking from the running sums of its two accounts again.
     pub fn debit(&mut self, b: Booking)
-        requires roomy { Roomy self.old }
         requires from { b.from < self.old.count }
         requires to { b.to < self.old.count }
         requires left { live (booked b) ≤ slice_index self.old.left.now b.from }

@@ -1,6 +1,5 @@
 // Bookings in lent memory: a column for each field, booking i in cell i of each.
-ghost use Rattle.std.specs.Prelude.{◌≡◌, ◌+◌, ◌*◌, ◌^◌, ◌<◌, ◌≤◌, length};
-ghost use Rattle.columns.specs.Rows.{row, Sound, NewBookings, Appended, Marked};
+ghost use Rattle.std.specs.Prelude.{◌≡◌, ℕ, ◌+◌, ◌*◌, ◌^◌, ◌<◌, ◌≤◌, length, slice_index};
 ghost use Rattle.wire.specs.Booked.{booked, mark};
 
 use wire::booking::{Booking, Kind, mark_from, mark_number};
@@ -17,9 +16,22 @@ pub struct Bookings<'a> {
     back: &'a mut [u32],
     count: usize,
     capacity: usize,
+    ghost within: { count ≤ capacity },
+    ghost few: { capacity ≤ 1000000 },
+    ghost on_room: { capacity ≤ length on.now },
+    ghost value_room: { capacity ≤ length value.now },
+    ghost from_room: { capacity ≤ length from.now },
+    ghost to_room: { capacity ≤ length to.now },
+    ghost amount_room: { capacity ≤ length amount.now },
+    ghost kind_room: { capacity ≤ length kind.now },
+    ghost back_room: { capacity ≤ length back.now },
+    // no sum of amounts passes 2 ^ 62
+    ghost small: { (i : ℕ) → i < count → slice_index amount.now i ≤ 4000000000000 },
 }
 
 impl<'a> Bookings<'a> {
+    ghost use Rattle.columns.specs.Rows.{NewBookings};
+
     // Cuts two slices into columns, with no bookings in them.
     pub fn lay(amount: &'a mut [u64], numbers: &'a mut [u32], capacity: usize) -> Bookings<'a>
         requires few { capacity ≤ 1000000 }
@@ -47,6 +59,8 @@ impl<'a> Bookings<'a> {
 }
 
 impl Bookings<'_> {
+    ghost use Rattle.columns.specs.Rows.{row, rows, booked_days, Appended, Marked};
+
     // How many there are.
     pub fn count(&self) -> usize
         ensures { result ≡ self.now.count }
@@ -63,29 +77,30 @@ impl Bookings<'_> {
 
     // Booking `i`.
     pub fn get(&self, i: usize) -> Booking
-        requires sound { Sound self.now }
         requires there { i < self.now.count }
         ensures { booked result ≡ row self.now i }
     {
-        let kind = if self.kind[i] == 0 {
-            Kind::Order
-        } else {
-            Kind::Interest
-        };
         Booking {
             on: self.on[i],
             value: self.value[i],
             from: self.from[i],
             to: self.to[i],
             amount: self.amount[i],
-            kind,
+            kind: Kind::try_from(self.kind[i]).unwrap_or(Kind::Interest),
             back: mark_from(self.back[i]),
         }
     }
 
+    // The days on which they were booked, in order.
+    #[tactic(auto, using(crate::proofs::Put::days_are))]
+    pub fn booked_days(&self) -> &[u32]
+        ensures { result.now ≡ booked_days (rows self.now) }
+    {
+        &self.on[..self.count]
+    }
+
     // Adds a booking under the next number.
     pub fn append(&mut self, b: Booking)
-        requires sound { Sound self.old }
         requires space { self.old.count < self.old.capacity }
         requires small { b.amount ≤ 4000000000000 }
         requires mark { mark b.back < 2 ^ 32 }
@@ -97,14 +112,13 @@ impl Bookings<'_> {
         self.from[i] = b.from;
         self.to[i] = b.to;
         self.amount[i] = b.amount;
-        self.kind[i] = b.kind.number();
+        self.kind[i] = u32::from(b.kind);
         self.back[i] = mark_number(b.back) as u32;
         self.count = i + 1;
     }
 
     // Marks booking `i` as taken back on `day`.
     pub fn take_back(&mut self, i: usize, day: u32)
-        requires sound { Sound self.old }
         requires there { i < self.old.count }
         requires day { day + 1 < 2 ^ 32 }
         ensures { Marked self.old self.new i day }

@@ -1,6 +1,9 @@
 // Chains through the bookings, newest first: every booking is in that of the account to which it goes and in that of the account from which it comes.
 ghost use Rattle.std.specs.Prelude.{◌≡◌, ℕ, ◌+◌, ◌*◌, ◌<◌, ◌≤◌, length, slice_index};
-ghost use Rattle.columns.specs.Links.{link_of, Linkable, NewChain, NewChains, Begun, Linked, BegunBoth, LinkedBoth};
+ghost use Rattle.bank.specs.Book.{Booking as Entry};
+ghost use Rattle.columns.specs.Links.{link_of, Linkable, Chained, NewChain, NewChains, Begun, Linked, BegunBoth, LinkedBoth};
+ghost use Rattle.columns.specs.declared.chains.Chain.{Chain};
+ghost use Rattle.columns.specs.declared.chains.Chains.{Chains};
 ghost use Rattle.wire.specs.Booked.{booked};
 
 use wire::booking::Booking;
@@ -23,15 +26,74 @@ pub struct Chains<'a> {
     outgoing: Chain<'a>,
 }
 
+// A side of a booking: the account to which it goes, or that from which it comes.
+pub trait Side {
+    ghost party_of: { Entry → ℕ };
+
+    ghost chain_of: { Chains → Chain };
+
+    // The account on this side of a booking.
+    fn party(booking: Booking) -> u32
+        ensures { result ≡ party_of (booked booking) };
+
+    // The chains by this side's accounts.
+    fn chain<'c, 'm>(chains: &'c Chains<'m>) -> &'c Chain<'m>
+        ensures { result.now ≡ chain_of chains.now };
+
+    // where both chains have room, this one has
+    ghost has_room: { (c : Chains) (m b : ℕ) → Linkable c m b → (m ≤ length (chain_of c).newest.now) × (b ≤ length (chain_of c).before.now) };
+
+    // where both chains lead through the bookings, this one does
+    ghost is_chained: { (c : Chains) (f : ℕ → Entry) (n m : ℕ) → Chained c.incoming (λ i. (f i).to) n m → Chained c.outgoing (λ i. (f i).from) n m → Chained (chain_of c) (λ i. party_of (f i)) n m };
+}
+
+// The side to which an amount goes.
+pub struct Incoming;
+
+impl Side for Incoming {
+    ghost party_of = { λ b. b.to };
+
+    ghost chain_of = { λ c. c.incoming };
+
+    ghost has_room = { λ c m b h. (h.heads_in, h.links_in) };
+
+    ghost is_chained = { λ c f n m i o. i };
+
+    fn party(booking: Booking) -> u32 {
+        booking.to
+    }
+
+    fn chain<'c, 'm>(chains: &'c Chains<'m>) -> &'c Chain<'m> {
+        &chains.incoming
+    }
+}
+
+// The side from which it comes.
+pub struct Outgoing;
+
+impl Side for Outgoing {
+    ghost party_of = { λ b. b.from };
+
+    ghost chain_of = { λ c. c.outgoing };
+
+    ghost has_room = { λ c m b h. (h.heads_out, h.links_out) };
+
+    ghost is_chained = { λ c f n m i o. o };
+
+    fn party(booking: Booking) -> u32 {
+        booking.from
+    }
+
+    fn chain<'c, 'm>(chains: &'c Chains<'m>) -> &'c Chain<'m> {
+        &chains.outgoing
+    }
+}
+
 // The booking that a cell links to.
 fn link_in(cell: u32) -> Option<usize>
     ensures { link_of result ≡ cell }
 {
-    if cell == 0 {
-        None
-    } else {
-        Some(cell as usize - 1)
-    }
+    (cell as usize).checked_sub(1)
 }
 
 impl<'a> Chain<'a> {
@@ -49,6 +111,22 @@ impl<'a> Chain<'a> {
 }
 
 impl Chain<'_> {
+    // The newest booking of an account.
+    pub fn newest(&self, account: u32) -> Option<usize>
+        requires { account < length self.now.newest.now }
+        ensures { link_of result ≡ slice_index self.now.newest.now account }
+    {
+        link_in(self.newest[account as usize])
+    }
+
+    // The booking of the same account before booking `i`.
+    pub fn before(&self, i: usize) -> Option<usize>
+        requires { i < length self.now.before.now }
+        ensures { link_of result ≡ slice_index self.now.before.now i }
+    {
+        link_in(self.before[i])
+    }
+
     // Begins the chain of account `a`.
     fn begin(&mut self, a: usize)
         requires { a < length self.old.newest.now }
@@ -86,38 +164,6 @@ impl<'a> Chains<'a> {
 }
 
 impl Chains<'_> {
-    // The newest booking to an account.
-    pub fn newest_to(&self, account: u32) -> Option<usize>
-        requires { (b : ℕ) × Linkable self.now (account + 1) b }
-        ensures { link_of result ≡ slice_index self.now.incoming.newest.now account }
-    {
-        link_in(self.incoming.newest[account as usize])
-    }
-
-    // The newest booking from an account.
-    pub fn newest_from(&self, account: u32) -> Option<usize>
-        requires { (b : ℕ) × Linkable self.now (account + 1) b }
-        ensures { link_of result ≡ slice_index self.now.outgoing.newest.now account }
-    {
-        link_in(self.outgoing.newest[account as usize])
-    }
-
-    // The booking before booking `i` to the same account.
-    pub fn before_to(&self, i: usize) -> Option<usize>
-        requires { (m : ℕ) × Linkable self.now m (i + 1) }
-        ensures { link_of result ≡ slice_index self.now.incoming.before.now i }
-    {
-        link_in(self.incoming.before[i])
-    }
-
-    // The booking before booking `i` from the same account.
-    pub fn before_from(&self, i: usize) -> Option<usize>
-        requires { (m : ℕ) × Linkable self.now m (i + 1) }
-        ensures { link_of result ≡ slice_index self.now.outgoing.before.now i }
-    {
-        link_in(self.outgoing.before[i])
-    }
-
     // Begins the chains of account `a`.
     pub fn begin(&mut self, a: usize)
         requires { (b : ℕ) × Linkable self.old (a + 1) b }

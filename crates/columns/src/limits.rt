@@ -4,7 +4,7 @@ ghost use Rattle.bank.specs.Promise.{allowed};
 ghost use Rattle.columns.specs.Sizes.{limits_of, cents_for, numbers_for, bytes_for};
 
 // How many accounts, rates and bookings a book can have.
-#[derive(Clone, Copy)]
+#[derive(Clone, Copy, PartialEq, Eq)]
 pub struct Limits {
     pub accounts: u32,
     pub rates: u32,
@@ -21,8 +21,7 @@ impl Limits {
     pub fn are_allowed(self) -> bool
         ensures { result ≡ allowed (limits_of self) }
     {
-        (2 <= self.accounts && self.accounts <= 4_096)
-            && (self.rates <= 16_384 && self.bookings <= 1_000_000)
+        (2..=4_096).contains(&self.accounts) && self.rates <= 16_384 && self.bookings <= 1_000_000
     }
 
     // How many cells of 8 bytes are to be lent.

@@ -1,6 +1,5 @@
 // Rates in lent memory, in the order in which they were set.
-ghost use Rattle.std.specs.Prelude.{◌≡◌, ℕ, ◌*◌, ◌<◌, ◌≤◌, length};
-ghost use Rattle.columns.specs.RateRows.{dated, rate_row, Rated, NewRates, RateAdded};
+ghost use Rattle.std.specs.Prelude.{◌≡◌, ◌*◌, ◌<◌, ◌≤◌, length};
 
 // A rate that an account has from a day on, in hundredths of a per cent a year.
 #[derive(Clone, Copy)]
@@ -18,9 +17,16 @@ pub struct Rates<'a> {
     rate: &'a mut [u32],
     count: usize,
     capacity: usize,
+    ghost within: { count ≤ capacity },
+    ghost few: { capacity ≤ 16384 },
+    ghost account_room: { capacity ≤ length account.now },
+    ghost since_room: { capacity ≤ length since.now },
+    ghost rate_room: { capacity ≤ length rate.now },
 }
 
 impl<'a> Rates<'a> {
+    ghost use Rattle.columns.specs.RateRows.{NewRates};
+
     // Cuts a slice into columns, with no rates in them.
     pub fn lay(numbers: &'a mut [u32], capacity: usize) -> Rates<'a>
         requires few { capacity ≤ 16384 }
@@ -40,6 +46,8 @@ impl<'a> Rates<'a> {
 }
 
 impl Rates<'_> {
+    ghost use Rattle.columns.specs.RateRows.{dated, rate_row, RateAdded};
+
     // How many there are.
     pub fn count(&self) -> usize
         ensures { result ≡ self.now.count }
@@ -56,7 +64,6 @@ impl Rates<'_> {
 
     // Rate `i`.
     pub fn get(&self, i: usize) -> Rate
-        requires rated { (n : ℕ) × Rated self.now n }
         requires there { i < self.now.count }
         ensures { dated result ≡ rate_row self.now i }
     {
@@ -69,7 +76,6 @@ impl Rates<'_> {
 
     // One more rate.
     pub fn append(&mut self, x: Rate)
-        requires rated { (n : ℕ) × Rated self.old n }
         requires space { self.old.count < self.old.capacity }
         ensures { RateAdded self.old self.new (dated x) }
     {

@@ -1,38 +1,24 @@
 // What one booking counts for: by value and as known, and in the running sums.
 ghost use Rattle.std.specs.Prelude.{◌≡◌};
 ghost use Rattle.bank.specs.Book.{known};
-ghost use Rattle.columns.specs.Parts.{brings, takes, live, live_order};
+ghost use Rattle.columns.specs.Parts.{share, live, live_order};
 ghost use Rattle.wire.specs.Booked.{booked};
 
+use crate::chains::Side;
 use wire::booking::{Booking, Kind};
 
 // Does it count, as known at the end of a day?
 fn known_on(b: Booking, day: u32) -> bool
     ensures { result ≡ known day (booked b) }
 {
-    b.on <= day
-        && match b.back {
-            None => true,
-            Some(back) => day < back,
-        }
+    b.on <= day && b.back.is_none_or(|back| day < back)
 }
 
-// What it brings to an account by a value day, as known at the end of a day.
-pub fn brings_to(b: Booking, account: u32, value_day: u32, known_day: u32) -> u64
-    ensures { result ≡ brings known_day account value_day (booked b) }
+// What it moves on a side of an account by a value day, as known at the end of a day.
+pub fn share<S: Side>(b: Booking, account: u32, value_day: u32, known_day: u32) -> u64
+    ensures { result ≡ share S.party_of known_day account value_day (booked b) }
 {
-    if known_on(b, known_day) && b.to == account && b.value <= value_day {
-        b.amount
-    } else {
-        0
-    }
-}
-
-// What it takes from an account by a value day, as known at the end of a day.
-pub fn takes_from(b: Booking, account: u32, value_day: u32, known_day: u32) -> u64
-    ensures { result ≡ takes known_day account value_day (booked b) }
-{
-    if known_on(b, known_day) && b.from == account && b.value <= value_day {
+    if known_on(b, known_day) && S::party(b) == account && b.value <= value_day {
         b.amount
     } else {
         0

@@ -1,9 +1,4 @@
 pub mod Beginning
 pub mod Serving
-pub mod Orders
-pub mod Openings
-pub mod Questions
-pub mod Settings
-pub mod Backs
 pub mod Endings
 pub mod Lines

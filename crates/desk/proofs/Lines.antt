@@ -1,23 +1,23 @@
 -- The lines of a statement: those from a booking on, one by one.
 use Rattle.std.proofs.Common.{◌≡◌, ℕ, zero, suc, ◌+◌, ◌<◌, ◌≤◌, Bool, true, false, ◌&&◌, ◌||◌, eqb, ltb, leb, List, [], ◌∷◌, length, get_or, drop, sym, refl, ap, ◌∙◌, arith}
-use Rattle.std.proofs.lemmas.List.{at_drop_more, at_drop_all, get_or-drop, length-drop}
-use Rattle.std.proofs.lemmas.Bool.{and_left, and_right, lt-leb}
+use Rattle.std.proofs.Math.Logic.{∥∥₁_elim}
+use Rattle.std.proofs.Props.{props}
+use Rattle.std.proofs.lemmas.List.{at_drop_more, at_drop_all, get_or-drop, get_or-map, length-drop, length-map}
+use Rattle.std.proofs.lemmas.List.Sorted.{IsNonDecreasingBy-from_default}
+use Rattle.std.proofs.lemmas.Bool.{and_left, and_right, lt-leb, ltb-true, ltb-false}
+use Rattle.std.specs.List.Sorted.{IsNonDecreasingBy, IsPartitionPoint}
+use Rattle.columns.specs.Rows.{booked_days}
 use Rattle.bank.specs.Book.{pick, Booking, Bank}
 use Rattle.bank.specs.Bounds.{InOrder}
 use Rattle.bank.specs.Builders.{booking_at}
-use Rattle.bank.specs.Calls.{statement, told, lines, lines_of, none_there, refused}
-use Rattle.bank.specs.Checks.{check, account_there, own_checks}
-use Rattle.bank.specs.Room.{has_room}
+use Rattle.bank.specs.Calls.{statement, told, lines, lines_of, none_there}
 use Rattle.bank.proofs.Order.{in_order}
-use Rattle.bank.proofs.Refusals.{Taken, Unchecked, passing, failing, all_passed}
 use Rattle.model.proofs.ReachedRegister.{reached_bank}
 use Rattle.ledger.specs.Meaning.{bank, register, limits}
-use Rattle.ledger.specs.declared.Ledger.{Ledger}
 use Rattle.wire.proofs.Answers.{few_lines}
-use Rattle.desk.specs.Desk.{Kept, Asked}
 use Rattle.desk.specs.Statements.{lines_left}
+use Rattle.desk.specs.declared.Book.{Book}
 use Rattle.desk.specs.declared.statement.Statement.{Statement}
-use Rattle.desk.proofs.Serving.{begun, asked_turned}
 
 -- is a booking a line of account a, from day d to day e
 abbrev pub is_line : ℕ → ℕ → ℕ → Booking → Bool
@@ -85,39 +85,23 @@ lines_begin n a d e i u h = ap lines (sym (lines_skip a d e n.bookings i u h))
 pub left_few : (n : Bank) (s : Statement) → length (lines_left n s) ≤ length n.bookings
 left_few n s = omega (arith, few_lines s.account s.first s.last (drop s.next n.bookings), length-drop s.next n.bookings)
 
--- the search for the first booking of a day: those before low are earlier, the one at high is not
-pub record Searched (n : Bank) (day low high : ℕ) : Type 0 where
-  pub order : low ≤ high
-  pub there : high ≤ length n.bookings
-  pub before : (k : ℕ) → k < low → (booking_at n k).on < day
-  pub from : high < length n.bookings → day ≤ (booking_at n high).on
+-- a search over the days on which bookings were booked finds the first of a day or a later one
+module _ (n : Bank) where
+  pub days_rise : InOrder n → IsNonDecreasingBy (λ x. x) (booked_days n.bookings)
+  days_rise o =
+      IsNonDecreasingBy-from_default (λ x. x) (booked_days n.bookings) none_there.on (λ i j le lt.
+      let k : j < length n.bookings = omega (arith, lt, length-map n.bookings (λ b. b.on)) in
+      rw (get_or-map (λ b. b.on) n.bookings i none_there none_there.on (omega arith), get_or-map (λ b. b.on) n.bookings j none_there none_there.on k) (o.ordered i j none_there le k))
 
-pub search_start : (n : Bank) (day high : ℕ) → high ≡ length n.bookings → Searched n day 0 high
-search_start n day high e = record { order = omega arith; there = omega (arith, e); before = λ k u. absurd (omega arith); from = λ u. absurd (omega (arith, e)) }
+  module _ (day i : ℕ) (u : i ≤ length n.bookings) (p : IsPartitionPoint (λ x. ltb x day ≡ true) (λ x. ltb x day ≡ false) (booked_days n.bookings) i) where
+    pub point_before : (k : ℕ) → k < i → (booking_at n k).on < day
+    point_before k h = let e = get_or-map (λ b. b.on) n.bookings k none_there none_there.on (omega arith) in ltb-true _ _ (rw (sym e) (p.0 k none_there.on (omega arith) h))
 
-pub search_up : (n : Bank) → InOrder n → (day low high m : ℕ) → Searched n day low high → m < high → (booking_at n m).on < day → Searched n day (m + 1) high
-search_up n o day low high m s u h =
-    record {
-      order = omega arith;
-      there = s.there;
-      before = λ k v. omega (arith, h, o.ordered k m none_there (omega arith) (omega (arith, s.there)));
-      from = s.from;
-    }
+    pub point_from : i < length n.bookings → day ≤ (booking_at n i).on
+    point_from h =
+        let e = get_or-map (λ b. b.on) n.bookings i none_there none_there.on h in
+        ltb-false _ _ (rw (sym e) (p.1 i none_there.on (omega arith) (omega (arith, h, length-map n.bookings (λ b. b.on)))))
 
-pub search_down : (n : Bank) (day low high m : ℕ) → Searched n day low high → low ≤ m → m < high → day ≤ (booking_at n m).on → Searched n day low m
-search_down n day low high m s v u h = record { order = v; there = omega (arith, s.there); before = s.before; from = λ _. h }
-
-module _ (g : Ledger) (k : Kept g) where
-  pub kept_order : InOrder (bank g)
-  kept_order = in_order (bank g) (reached_bank (limits g) (register g) k.reached)
-
-  module _ (a d e : ℕ) where
-    all_left : Unchecked (limits g) (bank g) (statement a d e) (account_there (bank g) a 0 ∷ (check true 10 0 ∷ []))
-    unfolding own_checks has_room
-    all_left = begun g k (statement a d e)
-
-    pub no_account : ltb a (length (bank g).accounts) ≡ false → Asked g (statement a d e) (refused 4 0)
-    no_account q = asked_turned g k (statement a d e) 4 0 (failing _ _ _ _ _ all_left q (omega arith))
-
-    pub passes : ltb a (length (bank g).accounts) ≡ true → Taken (limits g) (bank g) (statement a d e)
-    passes q = all_passed _ _ _ (passing _ _ _ _ _ (passing _ _ _ _ _ all_left q) refl)
+-- bookings of a book stand in their order
+pub booked_in_order : (b : Book) → InOrder (bank b.ledger)
+booked_in_order b = ∥∥₁_elim b.reached (hlevel props) (λ r. in_order (bank b.ledger) (reached_bank (limits b.ledger) (register b.ledger) r))

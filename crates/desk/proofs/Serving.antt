@@ -1,73 +1,138 @@
--- From what the checks of a call say to what a function of the desk leaves.
-use Rattle.std.proofs.Common.{◌≡◌, ℕ, Bool, true, false, not, ◌&&◌, List, [], ◌∷◌, ◌++◌, sym, refl, ap, ◌∙◌, subst}
-use Rattle.std.proofs.lemmas.Bool.{true≢false}
-use Rattle.bank.specs.Calls.{Call, Answer, refused, Limits, changed, told, answer}
+-- From what the checks of a call say to what a call of the desk leaves.
+use Rattle.std.proofs.Common.{◌≡◌, ℕ, zero, suc, Bool, true, false, not, ◌&&◌, List, [], ◌∷◌, ◌++◌, get_or, take, Option, sym, refl, ap, ◌∙◌, subst}
+use Rattle.std.specs.Bool.{then_some}
+use Rattle.std.proofs.Math.Logic.{∥∥₁_elim, ∥∥₁_map}
+use Rattle.std.proofs.Props.{props}
+use Rattle.std.proofs.lemmas.Bool.{true≢false, and_parts, and_from, and_left, ltb-true}
+use Rattle.bank.specs.Calls.{Call, opens, rated, move, take_back, day_ends, balance, statement, sums, taken_so_far, garbled, Answer, refused, Limits, changed, told}
+use Rattle.bank.specs.Book.{Bank}
 use Rattle.bank.specs.Builders.{counted}
+use Rattle.bank.specs.Checks.{Check, check, own_checks, Passed, numbered}
 use Rattle.bank.specs.Count.{changes}
 use Rattle.bank.specs.Effects.{Effect, effects, performed}
 use Rattle.bank.specs.Promise.{asks, plain, allowed}
 use Rattle.bank.specs.Room.{room_checks}
 use Rattle.bank.proofs.Effects.{by_effects}
 use Rattle.bank.proofs.Limited.{allowed_parts}
-use Rattle.bank.proofs.Refusals.{Turned, Taken, Unchecked, unchecked}
+use Rattle.bank.proofs.Refusals.{Turned, Taken, Unchecked, unchecked, passing, failing, all_passed}
 use Rattle.device.proofs.Keeps.{ran_snoc}
 use Rattle.model.specs.Register.{Dated, Register, sets, register_after, register_book, new_register}
 use Rattle.model.specs.First.{not_yet}
 use Rattle.model.specs.Whole.{ReachedRegister}
 use Rattle.model.proofs.ReachedRegister.{reached_under, register_idle, register_taken}
 use Rattle.ledger.specs.Meaning.{bank, rates_set, register, limits, sets_by}
-use Rattle.ledger.specs.Whole.{Made, Becomes}
+use Rattle.ledger.specs.Made.{Made, Becomes}
 use Rattle.ledger.specs.declared.Ledger.{Ledger}
-use Rattle.desk.specs.Desk.{Kept, Served, Asked, AskedFirst, ServedFirst}
+use Rattle.desk.specs.Desk.{HandsOn, Served, Asked, AskedFirst, ServedFirst}
+use Rattle.desk.specs.declared.Book.{Book}
 
-module _ (g : Ledger) (k : Kept g) (c : Call) where
-  -- all checks are to be made
-  pub begun : Unchecked (limits g) (bank g) c (room_checks (limits g) (bank g) c)
-  begun = unchecked (limits g) (bank g) c (allowed_parts (limits g) k.allows).two (reached_under (limits g) (register g) k.reached)
+-- what always holds of a book, of its ledger
+abbrev pub KeptBook : Ledger → Type 0
+KeptBook g = record { allows : allowed (limits g) ≡ true; reached : ∥ ReachedRegister (limits g) (register g) ∥₁ }
+
+-- a test hands on a value where it is passed
+pub handed_on : (o : Option ℕ) (x : ℕ) (b : Bool) → o ≡ then_some b x → HandsOn o x b
+handed_on o x true e = subst (λ (p : Option ℕ). HandsOn p x true) (sym e) (refl, refl)
+handed_on o x false e = subst (λ (p : Option ℕ). HandsOn p x false) (sym e) refl
+
+-- the check with number k of a list, and one that passes where there is none
+abbrev pub check_at : List Check → ℕ → Check
+check_at xs k = get_or xs k (check true 0 0)
+
+-- one check more has passed
+pub passed_more : (xs : List Check) (k : ℕ) → Passed (take k xs) → (check_at xs k).passes ≡ true → Passed (take (suc k) xs)
+passed_more [] k p e = tt
+passed_more (x ∷ xs) zero p e = (e, tt)
+passed_more (x ∷ xs) (suc k) p e = (p.0, passed_more xs k p.1 e)
+
+module _ (l : Limits) (n : Bank) (c : Call) where
+  -- the first check that fails turns the call away
+  turned_at : (xs : List Check) (k : ℕ) → Unchecked l n c xs → numbered xs ≡ true → Passed (take k xs) → (check_at xs k).passes ≡ false → Turned l n c (check_at xs k).number (check_at xs k).place
+  turned_at [] k u h p e = absurd (true≢false e)
+  turned_at (x ∷ xs) zero u h p e = failing l n c x xs u e (ltb-true 0 x.number (and_parts _ _ h).0)
+  turned_at (x ∷ xs) (suc k) u h p e = turned_at xs k (passing l n c x xs u p.0) (and_parts _ _ h).1 p.1 e
+
+  taken_all : (xs : List Check) → Unchecked l n c xs → Passed xs → Taken l n c
+  taken_all [] u p = all_passed l n c u
+  taken_all (x ∷ xs) u p = taken_all xs (passing l n c x xs u p.0) p.1
+
+-- no check has number 0
+all_numbered : (l : Limits) (n : Bank) (c : Call) → numbered (room_checks l n c) ≡ true
+unfolding own_checks
+all_numbered l n (opens m r) = refl
+all_numbered l n (rated a r) = refl
+all_numbered l n (move v a b x) = refl
+all_numbered l n (take_back k) = refl
+all_numbered l n day_ends = refl
+all_numbered l n (balance a d k) = refl
+all_numbered l n (statement a d e) = refl
+all_numbered l n sums = refl
+all_numbered l n taken_so_far = refl
+all_numbered l n (garbled k) = refl
+
+module _ (b : Book) (c : Call) where
+  -- the checks of the call, which are all to be made
+  abbrev pub all_checks : List Check
+  all_checks = room_checks (limits b.ledger) (bank b.ledger) c
+
+  begun : Unchecked (limits b.ledger) (bank b.ledger) c all_checks
+  begun =
+      ∥∥₁_elim b.reached (hlevel props)
+      (λ r. unchecked (limits b.ledger) (bank b.ledger) c (allowed_parts (limits b.ledger) b.allows).two (reached_under (limits b.ledger) (register b.ledger) r))
+
+  pub all_pass : Passed all_checks → Taken (limits b.ledger) (bank b.ledger) c
+  all_pass p = taken_all (limits b.ledger) (bank b.ledger) c all_checks begun p
+
+  turned : (k : ℕ) → Passed (take k all_checks) → (check_at all_checks k).passes ≡ false → Turned (limits b.ledger) (bank b.ledger) c (check_at all_checks k).number (check_at all_checks k).place
+  turned k p e = turned_at (limits b.ledger) (bank b.ledger) c all_checks k begun (all_numbered (limits b.ledger) (bank b.ledger) c) p e
 
   -- a call that is turned away leaves everything
-  pub served_turned : (t p : ℕ) → Turned (limits g) (bank g) c t p → Served g g c (refused t p) false
-  served_turned t p e =
-      record { after_is = sym (register_idle (limits g) (register g) c e.idle); told_is = sym e.away; did_is = sym e.idle; kept = k; limits_stay = refl }
+  pub served_turned : (k : ℕ) → Passed (take k all_checks) → (check_at all_checks k).passes ≡ false → Served b.ledger b.ledger c (refused (check_at all_checks k).number (check_at all_checks k).place) false
+  served_turned k p e =
+      let t = turned k p e in
+      record { after_is = sym (register_idle (limits b.ledger) (register b.ledger) c t.idle); told_is = sym t.away; did_is = sym t.idle; limits_stay = refl }
 
-  pub asked_turned : (t p : ℕ) → Turned (limits g) (bank g) c t p → Asked g c (refused t p)
-  asked_turned t p e = record { told_is = sym e.away; same = register_idle (limits g) (register g) c e.idle; idle = e.idle }
+  pub asked_turned : (k : ℕ) → Passed (take k all_checks) → (check_at all_checks k).passes ≡ false → Asked b.ledger c (refused (check_at all_checks k).number (check_at all_checks k).place)
+  asked_turned k p e =
+      let t = turned k p e in record { told_is = sym t.away; same = register_idle (limits b.ledger) (register b.ledger) c t.idle; idle = t.idle }
 
   -- a question that is answered
-  pub asked_taken : (a : Answer) → Taken (limits g) (bank g) c → asks c ≡ true → a ≡ told (bank g) c → Asked g c a
-  asked_taken a e q t =
-      let i : changes (limits g) (bank g) c ≡ false = e.does ∙ ap not q in
-      record { told_is = t ∙ sym e.says; same = register_idle (limits g) (register g) c i; idle = i }
+  pub asked_taken : (a : Answer) → Passed all_checks → asks c ≡ true → a ≡ told (bank b.ledger) c → Asked b.ledger c a
+  asked_taken a p q t =
+      let e = all_pass p in
+      let i : changes (limits b.ledger) (bank b.ledger) c ≡ false = e.does ∙ ap not q in
+      record { told_is = t ∙ sym e.says; same = register_idle (limits b.ledger) (register b.ledger) c i; idle = i }
 
   -- a call that is taken makes its one effect, and is counted
-  pub served_made : (f h : Ledger) (x : Effect) (a : Answer) → Taken (limits g) (bank g) c → asks c ≡ false → effects (bank g) c ≡ x ∷ [] → sets_by (bank g) x ≡ sets (bank g) c →
-      Made g f x → Becomes f h (counted (bank f)) → a ≡ told (bank g) c → Served g h c a true
-  served_made f h x a e q one rates m d t =
+  pub served_made : (f h : Ledger) (x : Effect) (a : Answer) → Passed all_checks → asks c ≡ false → effects (bank b.ledger) c ≡ x ∷ [] →
+      sets_by (bank b.ledger) x ≡ sets (bank b.ledger) c → Made b.ledger f x → Becomes f h (counted (bank f)) → a ≡ told (bank b.ledger) c → Served b.ledger h c a true
+  served_made f h x a p q one rates m d t =
+      let e = all_pass p in
       record {
-        after_is = after;
+        after_is = (let x = bank_after in let y = rates_after in let z = register_taken (limits b.ledger) (register b.ledger) c e.by_none in cc);
         told_is = t ∙ sym e.says;
         did_is = sym (e.does ∙ ap not q);
-        kept = record { whole = d.whole; allows = ap allowed same ∙ k.allows; reached = subst (λ (l : Limits). ReachedRegister l (register h)) (sym same) reached };
-        limits_stay = same;
+        limits_stay = d.limits_stay ∙ m.limits_stay;
       }
     where
-      same : limits h ≡ limits g
-      same = d.limits_stay ∙ m.limits_stay
+      bank_after : bank h ≡ changed (bank b.ledger) c
+      bank_after = d.bank_is ∙ ap counted m.bank_is ∙ sym (by_effects.changes (bank b.ledger) c ∙ ap (performed (bank b.ledger)) one)
 
-      bank_after : bank h ≡ changed (bank g) c
-      bank_after = d.bank_is ∙ ap counted m.bank_is ∙ sym (by_effects.changes (bank g) c ∙ ap (performed (bank g)) one)
+      rates_after : rates_set h ≡ rates_set b.ledger ++ sets (bank b.ledger) c
+      rates_after = d.rates_are ∙ m.rates_are ∙ ap (λ (xs : List Dated). rates_set b.ledger ++ xs) rates
 
-      rates_after : rates_set h ≡ rates_set g ++ sets (bank g) c
-      rates_after = d.rates_are ∙ m.rates_are ∙ ap (λ (xs : List Dated). rates_set g ++ xs) rates
-
-      after : register h ≡ register_after (limits g) (register g) c
-      after = (let p = bank_after in let r = rates_after in let z = register_taken (limits g) (register g) c e.by_none in cc)
-
-      reached : ReachedRegister (limits g) (register h)
-      reached = (
-        k.reached.0 ++ (c ∷ []),
-        ran_snoc (register_book (limits g)) new_register k.reached.0 c ∙ ap (λ (r : Register). register_after (limits g) r c) k.reached.1 ∙ sym after,
-      )
+  -- calls can be taken on what a call leaves
+  pub still_kept : (h : Ledger) (a : Answer) (did : Bool) → Served b.ledger h c a did → KeptBook h
+  still_kept h a did s =
+      record {
+        allows = ap allowed s.limits_stay ∙ b.allows;
+        reached =
+            ∥∥₁_map b.reached
+            (λ r. subst (λ (l : Limits). ReachedRegister l (register h)) (sym s.limits_stay) (
+              r.0 ++ (c ∷ []),
+              ran_snoc (register_book (limits b.ledger)) new_register r.0 c ∙ ap (λ (k : Register). register_after (limits b.ledger) k c) r.1 ∙ sym s.after_is,
+            ));
+      }
 
 -- a question of the first stage, by the code's call
 pub asked_first : (g : Ledger) (d c : Call) (a : Answer) → d ≡ c → (plain c && asks c) ≡ true → Asked g c a → AskedFirst g d a
@@ -78,18 +143,15 @@ pub other_first : (g : Ledger) (c : Call) (a : Answer) → (plain c && asks c) �
 other_first g c a p t = record { asked = λ q. absurd (true≢false (sym q ∙ p)); other = λ _. t }
 
 -- a call of the first stage, by the code's call and outcome
-pub first_served : (g h : Ledger) (d c : Call) (a b : Answer) (did did' : Bool) → d ≡ c → plain d ≡ true → a ≡ b → did ≡ did' → Served g h c b did' → ServedFirst g h d a did
+pub first_served : (g h : Ledger) (d c : Call) (a b : Answer) (did did' : Bool) → d ≡ c → plain c ≡ true → a ≡ b → did ≡ did' → Served g h c b did' → ServedFirst g h d a did
 first_served g h d c a b did did' e p x y s =
-    record {
-      after_is = rw p (s.after_is ∙ ap (register_after (limits g) (register g)) (sym e));
-      told_is = rw p (x ∙ s.told_is ∙ ap (answer (limits g) (bank g)) (sym e));
-      did_is = rw p (y ∙ s.did_is ∙ ap (changes (limits g) (bank g)) (sym e));
-      kept = s.kept;
-      limits_stay = s.limits_stay;
-    }
+    subst (λ (x : Call). ServedFirst g h x a did) (sym e)
+    (record { after_is = rw p s.after_is; told_is = rw p (x ∙ s.told_is); did_is = rw p (y ∙ s.did_is); limits_stay = s.limits_stay })
 
-pub first_asked : (g : Ledger) (c : Call) (a : Answer) → Kept g → plain c ≡ true → Asked g c a → ServedFirst g g c a false
-first_asked g c a k p s = record { after_is = rw p (sym s.same); told_is = rw p s.told_is; did_is = rw p (sym s.idle); kept = k; limits_stay = refl }
-
-pub first_later : (g : Ledger) (c : Call) → Kept g → plain c ≡ false → ServedFirst g g c (not_yet c) false
-first_later g c k p = record { after_is = rw p refl; told_is = rw p refl; did_is = rw p refl; kept = k; limits_stay = refl }
+-- a question, or a call that is not there yet
+pub first_asked : (g : Ledger) (d c : Call) (a : Answer) → d ≡ c → AskedFirst g d a → (plain c ≡ true → asks c ≡ true) → ServedFirst g g c a false
+first_asked g d c a e s q = go (plain c) refl (subst (λ (x : Call). AskedFirst g x a) e s)
+  where
+    go : (b : Bool) → plain c ≡ b → AskedFirst g c a → ServedFirst g g c a false
+    go true p r = let t = r.asked (and_from _ _ p (q p)) in record { after_is = rw p (sym t.same); told_is = rw p t.told_is; did_is = rw p (sym t.idle); limits_stay = refl }
+    go false p r = record { after_is = rw p refl; told_is = rw p (r.other (and_left _ _ p)); did_is = rw p refl; limits_stay = refl }

@@ -1,3 +1,4 @@
 pub mod Refusals
 pub mod Desk
+pub mod Opening
 pub mod Statements

@@ -2,10 +2,11 @@
 use Rattle.std.specs.Prelude.{ℕ}
 use Rattle.bank.specs.Calls.{Answer, refused}
 use Rattle.desk.specs.declared.refusal.Refusal.{Refusal}
-use Rattle.desk.specs.declared.refusal.Refusal.TheVariants.{Amount, Limit, Rate, Account, SameAccount, ValueDay, NotEnough, Booking, NotYetKnown, NoRoom}
+use Rattle.desk.specs.declared.refusal.Refusal.TheVariants.{NotYet, Amount, Limit, Rate, Account, SameAccount, ValueDay, NotEnough, Booking, NotYetKnown, NoRoom}
 
 -- the number of the list
 abbrev pub reason_of : Refusal → ℕ
+reason_of NotYet = 1
 reason_of Amount = 2
 reason_of Limit = 2
 reason_of Rate = 2
@@ -19,6 +20,7 @@ reason_of NoRoom = 10
 
 -- the place
 abbrev pub place_of : Refusal → ℕ
+place_of NotYet = 0
 place_of Amount = 3
 place_of Limit = 0
 place_of Rate = 1

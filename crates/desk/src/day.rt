@@ -1,13 +1,11 @@
 // Ends of days on which no month ends.
-ghost use Rattle.std.specs.Prelude.{◌≡◌, suc, false, length, nat_lt};
+ghost use Rattle.std.specs.Prelude.{◌≡◌, suc};
 ghost use Rattle.bank.specs.Builders.{month_starts};
-ghost use Rattle.bank.specs.Calls.{day_ends};
 ghost use Rattle.ledger.specs.Meaning.{bank};
-ghost use Rattle.ledger.specs.Whole.{Whole};
-ghost use Rattle.desk.specs.Desk.{HandsOn, Kept, Served, reply, took};
+ghost use Rattle.desk.specs.Desk.{DayServed, reply, took};
 
+use crate::Book;
 use crate::refusal::Refusal;
-use ledger::Ledger;
 use wire::answer::Answer;
 
 // The last day that a book can have.
@@ -16,36 +14,28 @@ const LAST_DAY: u32 = 3_650;
 // Days of a month.
 const MONTH: u32 = 30;
 
-// Does a month end today?
-pub fn ends_month(ledger: &Ledger) -> bool
-    requires { Kept ledger.now }
-    ensures { result ≡ month_starts (suc (bank ledger.now).today) }
-{
-    (ledger.today() + 1) % MONTH == 0
-}
-
-// How many bookings there are when today has ended, if the book has a day more.
-fn endable(ledger: &Ledger) -> Option<usize>
-    requires { Whole ledger.now }
-    ensures { HandsOn result (length (bank ledger.now).bookings) (nat_lt (bank ledger.now).today 3650) }
-{
-    if ledger.today() < LAST_DAY {
-        Some(ledger.booking_count())
-    } else {
-        None
+impl Book<'_> {
+    // Does a month end today?
+    #[tactic(auto, using(ledger::proofs::Bank::bank_today))]
+    pub fn ends_month(&self) -> bool
+        ensures { result ≡ month_starts (suc (bank self.now.ledger).today) }
+    {
+        (self.ledger.today() + 1) % MONTH == 0
     }
-}
 
-// Ends a day on which no month ends.
-pub fn end_day(ledger: &mut Ledger) -> Result<Answer, Refusal>
-    requires kept { Kept ledger.old }
-    requires within { month_starts (suc (bank ledger.old).today) ≡ false }
-    ensures { Served ledger.old ledger.new day_ends (reply result) (took result) }
-{
-    let Some(bookings) = endable(ledger) else {
-        return Err(Refusal::NoRoom);
-    };
-    ledger.begin_day();
-    ledger.count_call();
-    Ok(Answer::Number(bookings as u64))
+    // Ends a day. Ends of days on which a month ends are not there yet.
+    pub fn end_day(&mut self) -> Result<Answer, Refusal>
+        ensures { DayServed self.old.ledger self.new.ledger (reply result) (took result) }
+    {
+        if self.ends_month() {
+            return Err(Refusal::NotYet);
+        }
+        let bookings = self.ledger.booking_count() as u64;
+        let Some(bookings) = (self.ledger.today() < LAST_DAY).then_some(bookings) else {
+            return Err(Refusal::NoRoom);
+        };
+        self.ledger.begin_day();
+        self.ledger.count_call();
+        Ok(Answer::Number(bookings))
+    }
 }

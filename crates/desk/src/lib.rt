@@ -1,119 +1,120 @@
 // Taking a call, or turning it away: the refusal list in its order, then the change and its answer.
 #![tactic(auto)]
 
-ghost use Rattle.std.specs.Prelude.{◌≡◌, false, [], Some, None, Result};
-ghost use Rattle.bank.specs.Promise.{asks, plain};
-ghost use Rattle.wire.specs.Meaning.{meant};
+ghost use Rattle.std.specs.Prelude.{◌≡◌, true, []};
+ghost use Rattle.bank.specs.Promise.{allowed};
+ghost use Rattle.model.specs.Whole.{ReachedRegister};
+ghost use Rattle.ledger.specs.Meaning.{limits, register};
 ghost use Rattle.wire.specs.Answered.{answered};
-ghost use Rattle.desk.specs.Desk.{Kept, AskedFirst, ServedFirst, OutcomeOf, reply, took};
+ghost use Rattle.wire.specs.Meaning.{meant};
+ghost use Rattle.desk.specs.Desk.{AskedFirst, OutcomeOf, ServedFirst, answer_in, changed_in, reply, took};
 
 use ledger::Ledger;
 use refusal::Refusal;
 use wire::answer::Answer;
 use wire::call::Call;
 
-pub mod account;
-pub mod day;
-pub mod opening;
-pub mod order;
+mod account;
+mod day;
+mod opening;
+mod order;
 mod question;
 pub mod refusal;
 pub mod statement;
-pub mod taking_back;
+mod taking_back;
 
 // The most cents that an order moves, that a limit has, and that orders bring to one account.
 const MOST: u64 = 100_000_000_000;
 
-// What a call of a later stage is answered: it cannot be read yet.
-const NOT_YET: Answer = Answer::Refused {
-    reason: 1,
-    place: 0,
-};
+// A book on which calls can be taken: calls brought it about, under limits that may be given.
+#[derive(Drop)]
+pub struct Book<'a> {
+    ledger: Ledger<'a>,
+    pub ghost allows: { allowed (limits ledger) ≡ true },
+    pub ghost reached: { ∥ ReachedRegister (limits ledger) (register ledger) ∥₁ },
+}
 
 // What a call came to: its answer, and whether it changed the book.
-#[derive(Clone, Copy)]
-pub struct Outcome {
-    pub answer: Answer,
-    pub changed: bool,
+#[derive(Clone, Copy, Debug, PartialEq, Eq)]
+pub enum Outcome {
+    Changed(Answer),
+    Unchanged(Answer),
+}
+
+impl Outcome {
+    // What is answered.
+    pub fn answer(self) -> Answer
+        ensures { result ≡ answer_in self }
+    {
+        match self {
+            Outcome::Changed(answer) | Outcome::Unchanged(answer) => answer,
+        }
+    }
+
+    // Did the book change?
+    pub fn changed(self) -> bool
+        ensures { result ≡ changed_in self }
+    {
+        matches!(self, Outcome::Changed(_))
+    }
 }
 
 // The outcome of a call that changes the book if it is taken.
-fn outcome_of(res: Result<Answer, Refusal>) -> Outcome
-    ensures { OutcomeOf result (reply res) (took res) }
-{
-    match res {
-        Ok(answer) => Outcome {
-            answer,
-            changed: true,
-        },
-        Err(refusal) => Outcome {
-            answer: refusal.answer(),
-            changed: false,
-        },
+impl From<Result<Answer, Refusal>> for Outcome {
+    ghost from_gives = { λ res outcome. OutcomeOf outcome (reply res) (took res) };
+
+    fn from(res: Result<Answer, Refusal>) -> Outcome {
+        match res {
+            Ok(answer) => Outcome::Changed(answer),
+            Err(refusal) => Outcome::Unchanged(Answer::from(refusal)),
+        }
     }
 }
 
-// Answers a question of the first stage; a call that is none of these is not there yet.
-pub fn ask(ledger: &Ledger, call: Call) -> Answer
-    requires { Kept ledger.now }
-    ensures { AskedFirst ledger.now (meant call) (answered result []) }
-{
-    match call {
-        Call::Balance {
-            account,
-            value,
-            known,
-        } => match question::balance(ledger, account, value, known) {
-            Ok(answer) => answer,
-            Err(refusal) => refusal.answer(),
-        },
-        Call::Sums => question::sums(ledger),
-        Call::Taken => question::taken(ledger),
-        _ => NOT_YET,
+impl<'a> Book<'a> {
+    // What stands in the book, to be looked at.
+    pub fn ledger(&self) -> &Ledger<'a>
+        ensures { result.now ≡ self.now.ledger }
+    {
+        &self.ledger
     }
-}
 
-// Is a call one of the first stage: an account without interest, an order of the first day, or a question but a statement?
-fn is_plain(call: Call) -> bool
-    ensures { result ≡ plain (meant call) }
-{
-    match call {
-        Call::Open { limit: _, rate } => rate == 0,
-        Call::Move {
-            value,
-            from: _,
-            to: _,
-            amount: _,
-        } => value == 0,
-        Call::Balance { .. } => true,
-        Call::Sums => true,
-        Call::Taken => true,
-        _ => false,
+    // Answers a question of the first stage, or turns it away; a call that is none of these is not there yet.
+    fn asked(&self, call: Call) -> Result<Answer, Refusal>
+        ensures { AskedFirst self.now.ledger (meant call) (reply result) }
+    {
+        match call {
+            Call::Balance {
+                account,
+                value,
+                known,
+            } => self.balance(account, value, known),
+            Call::Sums => Ok(self.sums()),
+            Call::Taken => Ok(self.taken()),
+            _ => Err(Refusal::NotYet),
+        }
     }
-}
 
-// Takes a call of the first stage, or turns it away. Calls of a later stage are not there yet.
-pub fn take(ledger: &mut Ledger, call: Call) -> Outcome
-    requires { Kept ledger.old }
-    ensures { ServedFirst ledger.old ledger.new (meant call) (answered result.answer []) result.changed }
-{
-    if !is_plain(call) {
-        return Outcome {
-            answer: NOT_YET,
-            changed: false,
-        };
+    // Answers a question of the first stage; a call that is none of these is not there yet.
+    pub fn ask(&self, call: Call) -> Answer
+        ensures { AskedFirst self.now.ledger (meant call) (answered result []) }
+    {
+        self.asked(call).unwrap_or_else(Answer::from)
     }
-    match call {
-        Call::Open { limit, rate } => outcome_of(account::open(ledger, limit, rate)),
-        Call::Move {
-            value,
-            from,
-            to,
-            amount,
-        } => outcome_of(order::order(ledger, value, from, to, amount)),
-        _ => Outcome {
-            answer: ask(ledger, call),
-            changed: false,
-        },
+
+    // Takes a call of the first stage, or turns it away. Calls of a later stage are not there yet.
+    pub fn take(&mut self, call: Call) -> Outcome
+        ensures { ServedFirst self.old.ledger self.new.ledger (meant call) (answered (answer_in result) []) (changed_in result) }
+    {
+        match call {
+            Call::Open { limit, rate } if rate == 0 => self.open_account(limit, rate).into(),
+            Call::Move {
+                value,
+                from,
+                to,
+                amount,
+            } if value == 0 => self.order(value, from, to, amount).into(),
+            _ => Outcome::Unchanged(self.ask(call)),
+        }
     }
 }

@@ -2,6 +2,7 @@
 //
 // | case | number | place |
 // |---|---|---|
+// | a call of a later stage: it can't be read yet | 1 | 0 |
 // | amount: 0, or above 10^11 cents | 2 | 3 |
 // | limit above 10^11 cents | 2 | 0 |
 // | rate above 2,000 | 2 | 1 |
@@ -18,8 +19,9 @@ ghost use Rattle.desk.specs.Refusals.{turned_away};
 
 use wire::answer::Answer;
 
-#[derive(Clone, Copy)]
+#[derive(Clone, Copy, Debug, PartialEq, Eq)]
 pub enum Refusal {
+    NotYet,
     Amount,
     Limit,
     Rate,
@@ -32,12 +34,13 @@ pub enum Refusal {
     NoRoom,
 }
 
-impl Refusal {
-    // The answer that names it.
-    pub fn answer(self) -> Answer
-        ensures { answered result [] ≡ turned_away self }
-    {
-        let (reason, place) = match self {
+// The answer that names it.
+impl From<Refusal> for Answer {
+    ghost from_gives = { λ refusal answer. answered answer [] ≡ turned_away refusal };
+
+    fn from(refusal: Refusal) -> Answer {
+        let (reason, place) = match refusal {
+            Refusal::NotYet => (1, 0),
             Refusal::Limit => (2, 0),
             Refusal::Rate => (2, 1),
             Refusal::Amount => (2, 3),

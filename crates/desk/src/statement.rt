@@ -2,56 +2,46 @@
 ghost use Rattle.std.specs.Prelude.{◌≡◌, ℕ, ◌<◌, ◌≤◌, ◌&&◌, ◌||◌, length, ◌==◌, nat_le};
 ghost use Rattle.bank.specs.Builders.{booking_at};
 ghost use Rattle.ledger.specs.Meaning.{bank};
-ghost use Rattle.desk.specs.Desk.{Kept};
 ghost use Rattle.desk.specs.Statements.{lines_left, Stated, Handed};
 
+use crate::Book;
 use crate::refusal::Refusal;
-use ledger::Ledger;
 use wire::booking::Booking;
 
-// What a statement has yet to hand out: the bookings of an account, from one on, that were booked on some days.
-#[derive(Clone, Copy)]
+// What a statement has yet to hand out: the bookings of an account, from one on, that were booked on some days. It is held between acts beside the book, which it does not
+// borrow, and so it is no iterator.
+#[derive(Clone, Copy, Debug)]
 pub struct Statement {
     account: u32,
     first: u64,
     last: u64,
-    next: usize,
+    next: u64,
 }
 
 // The first booking of a day or a later one, or how many there are where there is none. Bookings stand in the order in which they were booked.
-fn first_booked(ledger: &Ledger, day: u64) -> usize
-    requires { Kept ledger.now }
-    ensures within { result ≤ length (bank ledger.now).bookings }
-    ensures before { (k : ℕ) → k < result → (booking_at (bank ledger.now) k).on < day }
-    ensures from { result < length (bank ledger.now).bookings → day ≤ (booking_at (bank ledger.now) result).on }
+fn first_booked(book: &Book, day: u64) -> usize
+    ensures within { result ≤ length (bank book.now.ledger).bookings }
+    ensures before { (k : ℕ) → k < result → (booking_at (bank book.now.ledger) k).on < day }
+    ensures from { result < length (bank book.now.ledger).bookings → day ≤ (booking_at (bank book.now.ledger) result).on }
 {
-    let mut low = 0;
-    let mut high = ledger.booking_count();
-    while low < high {
-        let middle = low + (high - low) / 2;
-        if (ledger.booking(middle).on as u64) < day {
-            low = middle + 1;
-        } else {
-            high = middle;
-        }
-    }
-    low
+    book.ledger
+        .booked_days()
+        .partition_point(|on| (*on as u64) < day)
 }
 
 impl Statement {
     // Begins a statement of an account, of what was booked from a first day to a last.
-    pub fn begin(ledger: &Ledger, account: u64, first: u64, last: u64) -> Result<Statement, Refusal>
-        requires { Kept ledger.now }
-        ensures { Stated ledger.now account first last result }
+    pub fn begin(book: &Book, account: u64, first: u64, last: u64) -> Result<Statement, Refusal>
+        ensures { Stated book.now.ledger account first last result }
     {
-        let Some(account) = ledger.account(account) else {
+        let Some(account) = book.ledger.account(account) else {
             return Err(Refusal::Account { field: 0 });
         };
         Ok(Statement {
             account,
             first,
             last,
-            next: first_booked(ledger, first),
+            next: first_booked(book, first) as u64,
         })
     }
 
@@ -64,12 +54,11 @@ impl Statement {
     }
 
     // Hands out the next line, if there is one.
-    pub fn next_line(&mut self, ledger: &Ledger) -> Option<Booking>
-        requires { Kept ledger.now }
-        ensures { Handed (bank ledger.now) self.old self.new result }
+    #[tactic(auto, using(ledger::proofs::Bank::bank_count))]
+    pub fn next_line(&mut self, book: &Book) -> Option<Booking>
+        ensures { Handed (bank book.now.ledger) self.old self.new result }
     {
-        while self.next < ledger.booking_count() {
-            let booking = ledger.booking(self.next);
+        while let Some(booking) = book.ledger.find_booking(self.next) {
             if self.last < booking.on as u64 {
                 return None;
             }
@@ -82,13 +71,13 @@ impl Statement {
     }
 
     // How many lines it has yet to hand out.
-    pub fn count(self, ledger: &Ledger) -> u64
-        requires { Kept ledger.now }
-        ensures { result ≡ length (lines_left (bank ledger.now) self) }
+    #[tactic(auto, using(ledger::proofs::Bank::bank_count, crate::proofs::Lines::left_few))]
+    pub fn count(self, book: &Book) -> u64
+        ensures { result ≡ length (lines_left (bank book.now.ledger) self) }
     {
         let mut rest = self;
         let mut count = 0;
-        while let Some(_) = rest.next_line(ledger) {
+        while let Some(_) = rest.next_line(book) {
             count += 1;
         }
         count

@@ -1,95 +1,63 @@
 // Days, value days, what was known when, taking back, rates and statements; how books went wrong before.
-ghost use Rattle.desk.specs.Desk.{Kept};
-ghost use Rattle.ledger.specs.Whole.{Whole};
-
 use crate::rows::*;
+use desk::Book;
 use desk::refusal::Refusal;
 use desk::statement::Statement;
-use desk::{account, ask, day, opening, order, taking_back};
 use ledger::Ledger;
 use std::process::Abort;
-use std::test::Fail;
 use wire::answer::Answer;
 use wire::call::Call;
 
-// The answer of a call that was taken or turned away.
-fn answer_of(res: Result<Answer, Refusal>) -> Answer {
-    match res {
-        Ok(answer) => answer,
-        Err(refusal) => refusal.answer(),
-    }
-}
-
 // How many lines a statement has.
-fn statement(ledger: &Ledger, account: u64, first: u64, last: u64) -> Answer
-    requires { Kept ledger.now }
-{
-    match Statement::begin(ledger, account, first, last) {
-        Ok(begun) => Answer::Lines {
-            count: begun.count(ledger),
-        },
-        Err(refusal) => refusal.answer(),
-    }
+fn statement(book: &Book, account: u64, first: u64, last: u64) -> Result<Answer, Refusal> {
+    let begun = Statement::begin(book, account, first, last)?;
+    Ok(Answer::Lines {
+        count: begun.count(book),
+    })
 }
 
-// Takes a call of any stage, but for an end of a month, which is passed over.
-fn take_any(ledger: &mut Ledger, call: Call) -> Answer
-    requires { Kept ledger.old }
-    ensures { Kept ledger.new }
-{
-    match call {
-        Call::Open { limit, rate } => answer_of(account::open(ledger, limit, rate)),
-        Call::Rate { account, rate } => answer_of(account::set_rate(ledger, account, rate)),
+// Takes a call of any stage.
+fn take_any(book: &mut Book, call: Call) -> Answer {
+    let res = match call {
+        Call::Open { limit, rate } => book.open_account(limit, rate),
+        Call::Rate { account, rate } => book.set_rate(account, rate),
         Call::Move {
             value,
             from,
             to,
             amount,
-        } => answer_of(order::order(ledger, value, from, to, amount)),
-        Call::TakeBack { booking } => answer_of(taking_back::take_back(ledger, booking)),
-        Call::DayEnds => {
-            if day::ends_month(ledger) {
-                return Answer::Number(0);
-            }
-            answer_of(day::end_day(ledger))
-        }
+        } => book.order(value, from, to, amount),
+        Call::TakeBack { booking } => book.take_back(booking),
+        Call::DayEnds => book.end_day(),
         Call::Statement {
             account,
             first,
             last,
-        } => statement(ledger, account, first, last),
-        _ => ask(ledger, call),
-    }
+        } => statement(book, account, first, last),
+        _ => Ok(book.ask(call)),
+    };
+    res.unwrap_or_else(Answer::from)
 }
 
 // Takes the calls of a table one after another: each has its answer.
-fn take_each(rt: &impl Abort, ledger: &mut Ledger, rows: &[Row]) -> Result<(), Fail>
-    requires { Kept ledger.old }
-    ensures { Kept ledger.new }
-{
+fn take_each(rt: &impl Abort, book: &mut Book, rows: &[Row]) {
     for row in rows {
         let (ask, numbers, answer) = *row;
-        assert_eq!(rt; told(take_any(ledger, call_of(ask, numbers))), answer);
+        assert_eq!(rt; told(take_any(book, call_of(ask, numbers))), answer);
     }
-    Ok(())
 }
 
 // The lines of a statement: amount, value day, day on which it was booked, and mark.
 const LINES: [(u64, u32, u32, Option<u32>); 2] = [(400_000, 0, 1, Some(2)), (5_000, 2, 2, None)];
 
 // A statement hands out these lines, oldest first, and then no more.
-fn check_lines(rt: &impl Abort, ledger: &Ledger, mut statement: Statement) -> Result<(), Fail>
-    requires { Kept ledger.now }
-{
+fn check_lines(rt: &impl Abort, book: &Book, mut statement: Statement) {
     for line in &LINES {
-        let Some(b) = statement.next_line(ledger) else {
-            return Err(Fail::new("no line"));
-        };
+        let b = statement.next_line(book).expect(rt, "a line");
         assert_eq!(rt; (b.amount, b.value, b.on, b.back), *line);
     }
-    assert_eq!(rt; statement.count(ledger), 0);
-    assert!(rt; statement.next_line(ledger).is_none());
-    Ok(())
+    assert_eq!(rt; statement.count(book), 0);
+    assert!(rt; statement.next_line(book).is_none());
 }
 
 const DAYS: [Row; 48] = [
@@ -146,24 +114,21 @@ const DAYS: [Row; 48] = [
 ];
 
 #[test]
-fn days_and_what_was_known(rt: HostRuntime) -> Result<(), Fail> {
+fn days_and_what_was_known(rt: HostRuntime) {
     let mut cents = [0u64; 64];
     let mut numbers = [0u32; 128];
-    let Ok(mut ledger) = opening::open(limits(4, 4, 4), &mut cents, &mut numbers) else {
-        return Err(Fail::new("not opened"));
+    let Ok(mut book) = Book::open(limits(4, 4, 4), &mut cents, &mut numbers) else {
+        panic!(rt; "no book");
     };
-    take_each(&rt, &mut ledger, &DAYS)?;
-    match Statement::begin(&ledger, 3, 1, 2) {
-        Ok(statement) => check_lines(&rt, &ledger, statement),
-        Err(_) => Err(Fail::new("turned away")),
-    }
+    take_each(&rt, &mut book, &DAYS);
+    let statement = Statement::begin(&book, 3, 1, 2)
+        .ok()
+        .expect(&rt, "a statement");
+    check_lines(&rt, &book, statement);
 }
 
 // Begins days of a book, month by month, with no interest booked.
-fn pass_days(ledger: &mut Ledger, days: u32)
-    requires { Whole ledger.old }
-    ensures { Whole ledger.new }
-{
+fn pass_days(ledger: &mut Ledger, days: u32) {
     for _day in 0..days {
         if ledger.today() < 3_650 {
             ledger.begin_day();
@@ -180,9 +145,7 @@ const VALUE_DAYS: [(u64, Option<u32>); 5] = [
     (u64::MAX, None),
 ];
 
-fn check_value_days(rt: &impl Abort, ledger: &Ledger)
-    requires { Whole ledger.now }
-{
+fn check_value_days(rt: &impl Abort, ledger: &Ledger) {
     for row in &VALUE_DAYS {
         let (day, found) = *row;
         assert_eq!(rt; ledger.value_day(day), found);
@@ -190,13 +153,12 @@ fn check_value_days(rt: &impl Abort, ledger: &Ledger)
 }
 
 #[test]
-fn value_days(rt: HostRuntime) -> Result<(), Fail> {
+fn value_days(rt: HostRuntime) {
     let mut cents = [0u64; 64];
     let mut numbers = [0u32; 128];
-    let Ok(mut ledger) = opening::open(limits(2, 0, 0), &mut cents, &mut numbers) else {
-        return Err(Fail::new("not opened"));
+    let Ok(mut ledger) = Ledger::open(limits(2, 0, 0), &mut cents, &mut numbers) else {
+        panic!(rt; "no ledger");
     };
     pass_days(&mut ledger, 61);
     check_value_days(&rt, &ledger);
-    Ok(())
 }

@@ -1,7 +1,6 @@
 // Each refusal, and the last call before it that is taken.
 use crate::rows::*;
-use desk::opening;
-use std::test::Fail;
+use desk::Book;
 
 // The most cents of an order, of a limit, and of all orders to one account.
 const MOST: u64 = 100_000_000_000;
@@ -34,8 +33,8 @@ const FIELDS_AND_ACCOUNTS: [Row; 24] = [
 ];
 
 #[test]
-fn fields_and_accounts(rt: HostRuntime) -> Result<(), Fail> {
-    run(&rt, limits(4, 3, 8), &FIELDS_AND_ACCOUNTS)
+fn fields_and_accounts(rt: HostRuntime) {
+    run(&rt, limits(4, 3, 8), &FIELDS_AND_ACCOUNTS);
 }
 
 const AMOUNTS_AND_ROOM: [Row; 17] = [
@@ -59,8 +58,8 @@ const AMOUNTS_AND_ROOM: [Row; 17] = [
 ];
 
 #[test]
-fn amounts_and_room(rt: HostRuntime) -> Result<(), Fail> {
-    run(&rt, limits(5, 2, 6), &AMOUNTS_AND_ROOM)
+fn amounts_and_room(rt: HostRuntime) {
+    run(&rt, limits(5, 2, 6), &AMOUNTS_AND_ROOM);
 }
 
 const LIMITS_USED_UP: [Row; 13] = [
@@ -80,8 +79,8 @@ const LIMITS_USED_UP: [Row; 13] = [
 ];
 
 #[test]
-fn limits_used_up(rt: HostRuntime) -> Result<(), Fail> {
-    run(&rt, limits(4, 3, 4), &LIMITS_USED_UP)
+fn limits_used_up(rt: HostRuntime) {
+    run(&rt, limits(4, 3, 4), &LIMITS_USED_UP);
 }
 
 const LATER_STAGES: [Row; 11] = [
@@ -99,15 +98,15 @@ const LATER_STAGES: [Row; 11] = [
 ];
 
 #[test]
-fn later_stages(rt: HostRuntime) -> Result<(), Fail> {
-    run(&rt, limits(4, 3, 4), &LATER_STAGES)
+fn later_stages(rt: HostRuntime) {
+    run(&rt, limits(4, 3, 4), &LATER_STAGES);
 }
 
 // Is a book opened with these limits in 36 cells of 8 bytes and 60 of 4?
 fn opens(accounts: u32, rates: u32, bookings: u32) -> Option<u64> {
     let mut cents = [0u64; 36];
     let mut numbers = [0u32; 60];
-    match opening::open(limits(accounts, rates, bookings), &mut cents, &mut numbers) {
+    match Book::open(limits(accounts, rates, bookings), &mut cents, &mut numbers) {
         Ok(_) => None,
         Err(refused) => Some(refused.misfit.place()),
     }

@@ -6,17 +6,13 @@
 // | 1 | a number | the number | 0 |
 // | 2 | amounts | what came | what left |
 // | 3 | lines | how many | 0 |
-ghost use Rattle.desk.specs.Desk.{Kept};
-
 use columns::limits::Limits;
-use desk::{opening, take};
-use ledger::Ledger;
+use desk::Book;
 use std::process::Abort;
-use std::test::Fail;
 use wire::answer::Answer;
 use wire::call::Call;
 
-// What is asked for.
+// What is asked for: a call without its numbers. A constant calls no function, and a call written out takes several lines, so a row of a table has the numbers beside.
 #[derive(Clone, Copy)]
 pub enum Ask {
     Open,
@@ -84,29 +80,25 @@ fn changes(ask: Ask, answer: [u64; 3]) -> bool {
 }
 
 // Takes the calls of a table one after another: each has its answer, and is counted only if it changes the book.
-fn take_all(rt: &impl Abort, ledger: &mut Ledger, rows: &[Row]) -> Result<(), Fail>
-    requires { Kept ledger.old }
-    ensures { Kept ledger.new }
-{
+fn take_all(rt: &impl Abort, book: &mut Book, rows: &[Row]) {
     for row in rows {
         let (ask, numbers, answer) = *row;
-        let done = ledger.done();
-        let outcome = take(ledger, call_of(ask, numbers));
-        assert_eq!(rt; told(outcome.answer), answer);
-        assert_eq!(rt; outcome.changed, changes(ask, answer));
-        assert_eq!(rt; ledger.done() > done, outcome.changed);
+        let done = book.ledger().done();
+        let outcome = book.take(call_of(ask, numbers));
+        assert_eq!(rt; told(outcome.answer()), answer);
+        assert_eq!(rt; outcome.changed(), changes(ask, answer));
+        assert_eq!(rt; book.ledger().done() > done, outcome.changed());
     }
-    Ok(())
 }
 
 // So of a new book with these limits, for which there is memory.
-pub fn run(rt: &impl Abort, limits: Limits, rows: &[Row]) -> Result<(), Fail> {
+pub fn run(rt: &impl Abort, limits: Limits, rows: &[Row]) {
     let mut cents = [0u64; 64];
     let mut numbers = [0u32; 128];
-    let Ok(mut ledger) = opening::open(limits, &mut cents, &mut numbers) else {
-        return Err(Fail::new("not opened"));
+    let Ok(mut book) = Book::open(limits, &mut cents, &mut numbers) else {
+        panic!(rt; "no book");
     };
-    take_all(rt, &mut ledger, rows)
+    take_all(rt, &mut book, rows);
 }
 
 // Limits that a book is opened with.

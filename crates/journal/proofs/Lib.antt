@@ -1,4 +1,4 @@
 pub mod Headers
 pub mod Tails
-pub mod Accepts
+pub mod Rows
 pub mod Recovery

@@ -1,3 +1,4 @@
 pub mod Headers
+pub mod Blocks
 pub mod Tail
 pub mod Recovery

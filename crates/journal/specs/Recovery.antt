@@ -1,5 +1,5 @@
 -- How the journal is read again, block by block. Assumes nothing: these are definitions.
-use Rattle.std.specs.Prelude.{◌≡◌, ℕ, ◌+◌, ◌*◌, ◌<◌, ◌≤◌, Bool, true, not, ◌&&◌, ◌||◌, ◌⊎◌, List, [], ◌∷◌, ◌++◌, length, Some, None, Option, ◌==◌, ◌≢◌, nat_le, nat_lt, slice_index_or}
+use Rattle.std.specs.Prelude.{◌≡◌, ℕ, ◌+◌, ◌*◌, ◌<◌, ◌≤◌, Bool, true, not, ◌&&◌, ◌||◌, ◌⊎◌, List, [], ◌∷◌, ◌++◌, length, Some, None, Option, ◌==◌, ◌≢◌, nat_le, nat_lt}
 use Rattle.device.specs.Device.{pick, Device}
 use Rattle.device.specs.Rows.{rows_in}
 use Rattle.device.specs.Journal.{gather, takes, logged}
@@ -12,9 +12,7 @@ use Rattle.bank.specs.Count.{changes}
 use Rattle.model.specs.JournalBlock.{call_row, head_in, limits_in_lem, headed, own, calls_in}
 use Rattle.columns.specs.Sizes.{limits_of}
 use Rattle.columns.specs.declared.limits.Limits.{Limits as Given}
-use Rattle.wire.specs.declared.call.Call.{Call as Told}
 use Rattle.wire.specs.JournalRow.{kind_at}
-use Rattle.wire.specs.Meaning.{meant}
 use Rattle.journal.specs.declared.journal.Journal.{Journal}
 use Rattle.journal.specs.Tail.{bounds, tail, Stands}
 
@@ -36,11 +34,11 @@ accepts format l epoch k count bs =
 
 -- so for the block that a journal reads next
 abbrev pub accepts_next : Journal → List ℕ → Bool
-accepts_next j bs = nat_lt j.read j.blocks && accepts j.format (bounds j) j.epoch j.read j.count bs
+accepts_next j bs = nat_lt j.read j.blocks && accepts j.label.format (bounds j) j.label.epoch j.read j.count bs
 
 -- how many rows it then has
 abbrev pub next_rows : Journal → List ℕ → ℕ
-next_rows j bs = rows_of j.format (bounds j) j.epoch bs
+next_rows j bs = rows_of j.label.format (bounds j) j.label.epoch bs
 
 -- a block that was accepted: it is whole, has no more rows than fit, and if it has some, these join those before
 pub record Fit (j : Journal) (bs : List ℕ) (n : ℕ) : Type 0 where
@@ -58,22 +56,11 @@ Fits j bs None = Unit {0}
 pub record Took (j k : Journal) (bs : List ℕ) (r : Option ℕ) : Type 0 where
   pub found : r ≡ pick (accepts_next j bs) (Some (next_rows j bs)) None
   pub fit : Fits j bs r
-  pub after :
-      k
-      ≡ record {
-        block = j.block;
-        format = j.format;
-        limits = j.limits;
-        epoch = j.epoch;
-        blocks = j.blocks;
-        read = j.read + pick (accepts_next j bs) 1 0;
-        count = j.count;
-      }
-
--- the call of row i of a block, by a kind that there is; or none
-abbrev pub RowOf : List ℕ → ℕ → Option Told → Type 0
-RowOf bs i (Some c) = ((n : ℕ) (d : Call) → i < n → slice_index_or (rows_in call_row 32 n bs) i d ≡ meant c) × (1 ≤ kind_at bs (32 + 20 * i)) × (kind_at bs (32 + 20 * i) ≤ 5)
-RowOf bs i None = (kind_at bs (32 + 20 * i) ≡ 0) ⊎ (5 < kind_at bs (32 + 20 * i))
+  pub block : k.block ≡ j.block
+  pub label : k.label ≡ j.label
+  pub blocks : k.blocks ≡ j.blocks
+  pub read : k.read ≡ j.read + pick (accepts_next j bs) 1 0
+  pub count : k.count ≡ j.count
 
 -- the limits that a block of some format says
 abbrev pub Says : List ℕ → ℕ → Option Given → Type 0

@@ -10,16 +10,17 @@
 // | 12 | 4 | limit of bookings |
 // | 16 | 2 | limit of rates |
 // | 18 | 14 | zeros |
-ghost use Rattle.std.specs.Prelude.{◌≡◌, ◌+◌, ◌≤◌, [], length, drop};
-ghost use Rattle.device.specs.Rows.{bytes_of, number_of, with_bytes};
-ghost use Rattle.model.specs.JournalBlock.{head_in, same_book, journal_block};
+ghost use Rattle.std.specs.Prelude.{◌≡◌, ◌+◌, ◌≤◌, [], length, take, drop};
+ghost use Rattle.device.specs.Rows.{bytes_of, with_bytes};
+ghost use Rattle.model.specs.JournalBlock.{same_book};
 ghost use Rattle.columns.specs.Sizes.{limits_of};
-ghost use Rattle.journal.specs.Headers.{head_of, rows_found};
+ghost use Rattle.journal.specs.Blocks.{block_with};
+ghost use Rattle.journal.specs.Headers.{head_of, limits_said, rows_found, Reads};
 ghost use Rattle.journal.specs.Recovery.{Says};
 
 use blocks::BLOCK;
 use columns::limits::Limits;
-use wire::bytes::{number_at, put_number};
+use wire::bytes::put_number;
 
 // Where each number stands.
 const FORMAT_AT: usize = 0;
@@ -39,6 +40,14 @@ const RATES_AT: usize = 16;
 // Rows in a block.
 pub(crate) const ROWS: u64 = 24;
 
+// What each block of a journal says of its book: its format, the book's limits, and the number of the checkpoint.
+#[derive(Clone, Copy)]
+pub struct Label {
+    pub format: u16,
+    pub limits: Limits,
+    pub epoch: u32,
+}
+
 // What a header says.
 #[derive(Clone, Copy)]
 pub(crate) struct Header {
@@ -51,47 +60,51 @@ pub(crate) struct Header {
     pub(crate) rates: u16,
 }
 
-// The number in two bytes.
-fn u16_at(block: &[u8], at: usize) -> u16
-    requires { at + 2 ≤ length block.now }
-    ensures { result ≡ number_of 2 (drop at block.now) }
+// The N bytes from `at` on.
+fn bytes_at<const N: usize>(block: &[u8], at: usize) -> [u8; N]
+    requires { at + N ≤ length block.now }
+    ensures { result ≡ take N (drop at block.now) }
 {
-    number_at(block, at, 2) as u16
-}
-
-// The number in four bytes.
-fn u32_at(block: &[u8], at: usize) -> u32
-    requires { at + 4 ≤ length block.now }
-    ensures { result ≡ number_of 4 (drop at block.now) }
-{
-    number_at(block, at, 4) as u32
-}
-
-// Reads the header of a block.
-pub(crate) fn read_header(block: &[u8]) -> Header
-    requires { 32 ≤ length block.now }
-    ensures { head_of result ≡ head_in block.now }
-{
-    Header {
-        format: u16_at(block, FORMAT_AT),
-        rows: u16_at(block, ROWS_AT),
-        options: u16_at(block, OPTIONS_AT),
-        accounts: u16_at(block, ACCOUNTS_AT),
-        epoch: u32_at(block, EPOCH_AT),
-        bookings: u32_at(block, BOOKINGS_AT),
-        rates: u16_at(block, RATES_AT),
-    }
+    let mut bytes = [0; N];
+    bytes.copy_from_slice(&block[at..at + N]);
+    bytes
 }
 
 impl Header {
-    // Is it of this format, and of a book with these limits?
-    pub(crate) fn is_of(self, format: u16, limits: Limits) -> bool
-        ensures { result ≡ same_book format (limits_of limits) (head_of self) }
+    // Reads the header of a block; none where the bytes are no whole block.
+    pub(crate) fn read(block: &[u8]) -> Option<Header>
+        ensures { Reads block.now result }
     {
-        self.format == format
-            && self.accounts as u32 == limits.accounts
-            && self.rates as u32 == limits.rates
-            && self.bookings == limits.bookings
+        if block.len() != BLOCK {
+            return None;
+        }
+        Some(Header {
+            format: u16::from_le_bytes(bytes_at(block, FORMAT_AT)),
+            rows: u16::from_le_bytes(bytes_at(block, ROWS_AT)),
+            options: u16::from_le_bytes(bytes_at(block, OPTIONS_AT)),
+            accounts: u16::from_le_bytes(bytes_at(block, ACCOUNTS_AT)),
+            epoch: u32::from_le_bytes(bytes_at(block, EPOCH_AT)),
+            bookings: u32::from_le_bytes(bytes_at(block, BOOKINGS_AT)),
+            rates: u16::from_le_bytes(bytes_at(block, RATES_AT)),
+        })
+    }
+
+    // The limits of the book that its block is of.
+    fn limits(self) -> Limits
+        ensures { limits_of result ≡ limits_said (head_of self) }
+    {
+        Limits {
+            accounts: self.accounts as u32,
+            rates: self.rates as u32,
+            bookings: self.bookings,
+        }
+    }
+
+    // Is its block of the format and the book of this label?
+    pub(crate) fn is_of(self, label: Label) -> bool
+        ensures { result ≡ same_book label.format (limits_of label.limits) (head_of self) }
+    {
+        self.format == label.format && self.limits() == label.limits
     }
 
     // How many rows its block has for a journal of this epoch, which a block can join or not; one of an earlier epoch counts as empty. None where it cannot be of the journal: it
@@ -102,10 +115,8 @@ impl Header {
         if self.rows == 0 || self.epoch < epoch {
             return Some(0);
         }
-        if self.epoch > epoch || self.rows as u64 > ROWS || !joins {
-            return None;
-        }
-        Some(self.rows as usize)
+        let fits = self.epoch == epoch && self.rows as u64 <= ROWS && joins;
+        fits.then_some(self.rows as usize)
     }
 }
 
@@ -113,31 +124,23 @@ impl Header {
 pub fn limits_in(block: &[u8], format: u16) -> Option<Limits>
     ensures { Says block.now format result }
 {
-    if block.len() != BLOCK {
-        return None;
-    }
-    let header = read_header(block);
-    if header.format != format {
-        return None;
-    }
-    Some(Limits {
-        accounts: header.accounts as u32,
-        rates: header.rates as u32,
-        bookings: header.bookings,
-    })
+    let header = Header::read(block)?;
+    (header.format == format).then_some(header.limits())
 }
 
-// Begins a block of a journal: its header, with no rows yet, and zeros.
-pub(crate) fn write_header(block: &mut [u8], format: u16, limits: Limits, epoch: u32)
-    requires { length block.old ≡ 512 }
-    ensures { block.new ≡ journal_block format (limits_of limits) epoch [] }
-{
-    block.fill(0);
-    put_number(block, FORMAT_AT, 2, format as u64);
-    put_number(block, ACCOUNTS_AT, 2, limits.accounts as u64);
-    put_number(block, EPOCH_AT, 4, epoch as u64);
-    put_number(block, BOOKINGS_AT, 4, limits.bookings as u64);
-    put_number(block, RATES_AT, 2, limits.rates as u64);
+impl Label {
+    // Begins a block of a journal: its header, with no rows yet, and zeros.
+    pub(crate) fn begin(self, block: &mut [u8])
+        requires { length block.old ≡ 512 }
+        ensures { block.new ≡ block_with self [] }
+    {
+        block.fill(0);
+        put_number(block, FORMAT_AT, 2, self.format as u64);
+        put_number(block, ACCOUNTS_AT, 2, self.limits.accounts as u64);
+        put_number(block, EPOCH_AT, 4, self.epoch as u64);
+        put_number(block, BOOKINGS_AT, 4, self.limits.bookings as u64);
+        put_number(block, RATES_AT, 2, self.limits.rates as u64);
+    }
 }
 
 // Puts the number of rows into the header.

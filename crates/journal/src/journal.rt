@@ -1,17 +1,16 @@
 // The end of the journal: how many calls it has, and the block that is written next.
-ghost use Rattle.std.specs.Prelude.{◌≡◌, ◌*◌, ◌/◌, ◌<◌, true, List, [], ◌∷◌, ◌++◌, length, Some, None, nat_lt};
+// A block is a lent slice of 512 bytes and no array, since it is a part of lent bytes that begins in their middle.
+ghost use Rattle.std.specs.Prelude.{◌≡◌, ◌*◌, ◌/◌, ◌%◌, ◌<◌, true, List, [], ◌∷◌, ◌++◌, length, Some, None, ◌==◌, nat_lt};
+ghost use Rattle.device.specs.Book.{every};
 ghost use Rattle.device.specs.Device.{pick};
 ghost use Rattle.bank.specs.Calls.{Call as Told};
 ghost use Rattle.bank.specs.Promise.{allowed};
 ghost use Rattle.model.specs.JournalBlock.{stored};
 ghost use Rattle.columns.specs.Sizes.{limits_of};
 ghost use Rattle.wire.specs.Meaning.{meant};
-ghost use Rattle.journal.specs.Tail.{with_row, Sound, Roomy, Appended, Stands};
-ghost use Rattle.journal.specs.Recovery.{accepts_next, next_rows, Took, RowOf};
+ghost use Rattle.journal.specs.Blocks.{block_with, tail_in, with_row, RowOf};
 
-use crate::header::{ROWS, read_header, write_header, write_rows};
-use blocks::BLOCK;
-use columns::limits::Limits;
+use crate::header::{Header, Label, ROWS, write_rows};
 use wire::call::Call;
 use wire::row::{read_row, write_row};
 
@@ -20,13 +19,16 @@ const HEADER: usize = 32;
 
 const ROW: usize = 20;
 
-// Puts a row behind the first n of a block.
-fn put_row(block: &mut [u8], n: u64, call: Call)
+// Puts a row behind the first n of a block; the first row begins the block anew.
+fn put_row(block: &mut [u8], label: Label, n: u64, call: Call)
     requires whole { length block.old ≡ 512 }
     requires room { n < 24 }
     requires kept { stored (meant call) ≡ true }
-    ensures { block.new ≡ with_row block.old n (meant call) }
+    ensures { block.new ≡ with_row (pick (n == 0) (block_with label []) block.old) n (meant call) }
 {
+    if n == 0 {
+        label.begin(block);
+    }
     write_rows(block, n + 1);
     write_row(block, HEADER + ROW * n as usize, call);
 }
@@ -36,37 +38,41 @@ fn put_row(block: &mut [u8], n: u64, call: Call)
 #[derive(Drop)]
 pub struct Journal<'a> {
     block: &'a mut [u8],
-    format: u16,
-    limits: Limits,
-    epoch: u32,
+    label: Label,
     blocks: u32,
     read: u32,
     count: u64,
+    // the book's limits may be given
+    ghost lawful: { allowed (limits_of label.limits) ≡ true },
+    // a format is never 0
+    ghost named: { 0 < label.format },
+    // the block is whole
+    ghost whole: { length block.now ≡ 512 },
+    // once it has rows, it is the block of the last calls
+    ghost bytes: { 0 < count % 24 → block.now ≡ block_with label (tail_in label count block.now) },
+    // as many as are not in the blocks before
+    ghost long: { length (tail_in label count block.now) ≡ count % 24 },
+    // each of them can be stored
+    ghost rows: { every stored (tail_in label count block.now) ≡ true },
 }
 
 impl<'a> Journal<'a> {
+    ghost use Rattle.journal.specs.Tail.{Stands};
+
     // A journal that has so many blocks, of which none was read yet.
-    pub fn new(
-        block: &'a mut [u8],
-        format: u16,
-        limits: Limits,
-        epoch: u32,
-        blocks: u32,
-    ) -> Journal<'a>
+    #[tactic(auto, unfolding(crate::specs::Blocks::tail_in, device::specs::Book::every))]
+    pub fn new(block: &'a mut [u8], label: Label, blocks: u32) -> Journal<'a>
         requires whole { length block.old ≡ 512 }
-        requires named { 0 < format }
-        requires lawful { allowed (limits_of limits) ≡ true }
-        ensures sound { Sound result }
+        requires named { 0 < label.format }
+        requires lawful { allowed (limits_of label.limits) ≡ true }
         ensures stands { Stands result [] }
-        ensures book { (result.format ≡ format) × (result.limits ≡ limits) × (result.epoch ≡ epoch) }
+        ensures book { result.label ≡ label }
         ensures blocks { (result.blocks ≡ blocks) × (result.read ≡ 0) }
         ensures bytes { result.block.now ≡ block.old }
     {
         Journal {
             block,
-            format,
-            limits,
-            epoch,
+            label,
             blocks,
             read: 0,
             count: 0,
@@ -75,33 +81,20 @@ impl<'a> Journal<'a> {
 }
 
 impl Journal<'_> {
-    // Begins a new block where the last is full.
-    fn make_room(&mut self)
-        requires { Sound self.old }
-        ensures { Roomy self.old self.new }
-    {
-        if self.count % ROWS != 0 {
-            return;
-        }
-        let format = self.format;
-        let limits = self.limits;
-        let epoch = self.epoch;
-        write_header(self.block, format, limits, epoch);
-    }
+    ghost use Rattle.journal.specs.Tail.{Appended, Stands};
+    ghost use Rattle.journal.specs.Recovery.{accepts_next, next_rows, Took};
 
     // Adds a call, and says which block is to be written.
     pub fn append(&mut self, call: Call) -> u64
-        requires sound { Sound self.old }
         requires room { self.old.count < 24 * self.old.blocks }
         requires kept { stored (meant call) ≡ true }
         ensures appended { Appended self.old self.new (meant call) }
         ensures stands { (s : List Told) → Stands self.old s → Stands self.new (s ++ (meant call ∷ [])) }
         ensures block { (result ≡ self.old.count / 24) × (result < self.old.blocks) }
     {
-        self.make_room();
         let n = self.count % ROWS;
         let k = self.count / ROWS;
-        put_row(self.block, n, call);
+        put_row(self.block, self.label, n, call);
         self.count += 1;
         k
     }
@@ -117,44 +110,31 @@ impl Journal<'_> {
     pub fn next_block(&self) -> Option<u64>
         ensures { result ≡ pick (nat_lt self.now.read self.now.blocks) (Some self.now.read) None }
     {
-        if self.read < self.blocks {
-            return Some(self.read as u64);
-        }
-        None
+        (self.read < self.blocks).then_some(self.read as u64)
     }
 
     // How many rows the block that is read next has for this journal; none where it cannot be a block of it.
+    #[tactic(auto, using(std::proofs::lemmas::Bool::Decides::nat_tests), unfolding(model::specs::JournalBlock::headed, model::specs::JournalBlock::own))]
     fn rows_in(&self, bytes: &[u8]) -> Option<usize>
-        requires { Sound self.now }
         ensures { result ≡ pick (accepts_next self.now bytes.now) (Some (next_rows self.now bytes.now)) None }
     {
-        if self.read >= self.blocks {
-            return None;
-        }
-        if bytes.len() != BLOCK {
-            return None;
-        }
-        let header = read_header(bytes);
+        let k = self.next_block()?;
+        let header = Header::read(bytes)?;
         if header.format == 0 {
             return Some(0);
         }
-        if !header.is_of(self.format, self.limits) {
+        if !header.is_of(self.label) {
             return None;
         }
-        let joins = self.count == ROWS * self.read as u64;
-        header.rows_for(self.epoch, joins)
+        header.rows_for(self.label.epoch, self.count == ROWS * k)
     }
 
     // Takes the block that was asked for, and says how many rows it has; none where it cannot be a block of this journal.
     pub fn take_block(&mut self, bytes: &[u8]) -> Option<usize>
-        requires { Sound self.old }
         ensures took { Took self.old self.new bytes.now result }
-        ensures sound { Sound self.new }
         ensures stands { (s : List Told) → Stands self.old s → Stands self.new s }
     {
-        let Some(rows) = self.rows_in(bytes) else {
-            return None;
-        };
+        let rows = self.rows_in(bytes)?;
         self.read += 1;
         Some(rows)
     }

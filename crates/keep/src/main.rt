@@ -3,104 +3,74 @@
 // as the n-th write to it made it.
 #![tactic(auto)]
 
-ghost use Rattle.session.specs.Session.{Ready};
-
 use anyhow::anyhow;
 use cut::keep_cut;
-use session::opening::{blocks_needed, open};
+use ledger::opening::Misfit;
+use session::opening::blocks_needed;
 use session::{Next, Session};
 use std::{env, fs};
-use store::{BLOCK, BYTES, CENTS, LIMITS, NUMBERS, Store, read_all};
-use text::answer::write_answer_line;
-use text::line::{LONGEST, read_line};
+use store::lines::{row_of, say};
+use store::memory::Memory;
+use store::{LIMITS, Store, open_book};
 
 mod cut;
 
 // The most acts that a call has, and one more.
 const ACTS: u32 = 4;
 
+const USAGE: &str = "usage: keep DEVICE CALLS [BUDGET [ROW]]";
+
 // Prints that the book cannot be opened, by the place of what does not fit.
-fn refuse(rt: &HostRuntime, place: u64) -> anyhow::Result<()> {
+fn refuse(rt: &HostRuntime, misfit: Misfit) -> anyhow::Result<()> {
+    let place = misfit.place();
     println!(rt; "0 3 {place}")?;
     Err(anyhow!("the book cannot be opened"))
 }
 
-// Does what is to be done: a block is on the disk before anything is said.
-fn perform(rt: &HostRuntime, session: &mut Session, store: &mut Store) -> anyhow::Result<()>
-    requires { Ready session.old }
-    ensures { Ready session.new }
-{
-    let mut place = 0;
-    for _ in 0..ACTS {
-        match session.next_act() {
-            Next::Write(k) => place = k,
-            Next::Flush => store.write(place, session.block())?,
-            Next::Say(n) => say(rt, session.answer_bytes(), n)?,
-            Next::Done => return Ok(()),
+// A session, and the file that its acts are done on.
+#[derive(Drop)]
+struct Keeper<'a> {
+    session: Session<'a>,
+    store: Store,
+}
+
+impl Keeper<'_> {
+    // Does what is to be done: a block is on the disk before anything is said.
+    fn perform(&mut self, rt: &HostRuntime) -> anyhow::Result<()> {
+        let mut place = 0;
+        for _ in 0..ACTS {
+            match self.session.next_act() {
+                Next::Write(k) => place = k,
+                Next::Flush => self.store.write(place, self.session.block())?,
+                Next::Say(n) => match self.session.answer_bytes().get(..n) {
+                    Some(answer) => say(rt, answer)?,
+                    None => return Err(anyhow!("an answer without bytes")),
+                },
+                Next::Done => return Ok(()),
+            }
         }
+        Ok(())
     }
-    Ok(())
-}
 
-// Prints the answer that the first n bytes are.
-fn say(rt: &HostRuntime, bytes: &[u8], n: usize) -> anyhow::Result<()> {
-    if n > bytes.len() {
-        return Err(anyhow!("an answer without bytes"));
+    // Answers all lines.
+    fn answer_all(&mut self, rt: &HostRuntime, calls: &str) -> anyhow::Result<()> {
+        for line in calls.lines() {
+            let row = row_of(rt.alloc(), line)?;
+            self.session.call(&row);
+            self.perform(rt)?;
+        }
+        Ok(())
     }
-    let line = write_answer_line(rt.alloc(), &bytes[0..n])?;
-    println!(rt; "{line}")?;
-    Ok(())
-}
-
-// Answers one line; one that stands for no row of bytes is as a row of none.
-fn answer(
-    rt: &HostRuntime,
-    session: &mut Session,
-    store: &mut Store,
-    line: &str,
-) -> anyhow::Result<()>
-    requires { Ready session.old }
-    ensures { Ready session.new }
-{
-    let mut row = [0; LONGEST];
-    let n = read_line(line.as_bytes(), &mut row).unwrap_or(0);
-    session.call(&row[0..n.min(LONGEST)]);
-    perform(rt, session, store)
-}
-
-// Answers all lines.
-fn answer_all(
-    rt: &HostRuntime,
-    session: &mut Session,
-    store: &mut Store,
-    calls: &str,
-) -> anyhow::Result<()>
-    requires { Ready session.old }
-{
-    for line in calls.lines() {
-        answer(rt, session, store, line)?;
-    }
-    Ok(())
 }
 
 // Keeps the book of a device.
 fn keep(rt: &HostRuntime, device: &str, calls: &str) -> anyhow::Result<()> {
     let mut store = Store::open(rt, device, blocks_needed(LIMITS))?;
-    let mut cents = [0; CENTS];
-    let mut numbers = [0; NUMBERS];
-    let mut block = [0; BLOCK];
-    let mut bytes = [0; BYTES];
-    let mut opening = match open(LIMITS, &mut cents, &mut numbers, &mut block, &mut bytes) {
-        Ok(opening) => opening,
-        Err(refused) => return refuse(rt, refused.place),
-    };
-    if !read_all(&mut store, &mut opening)? {
-        return refuse(rt, 1);
+    let mut memory = Memory::new(rt.alloc(), LIMITS)?;
+    match open_book(&mut store, &mut memory) {
+        Ok(session) => Keeper { session, store }.answer_all(rt, calls),
+        Err(misfit) => refuse(rt, misfit),
     }
-    let Some(mut session) = opening.stand() else {
-        return refuse(rt, 1);
-    };
-    answer_all(rt, &mut session, &mut store, calls)
 }
 
 // The numbers of a text, between blanks.
@@ -137,12 +107,12 @@ fn run(rt: &HostRuntime) -> anyhow::Result<()> {
     let mut words = env::args(rt)?;
     let _program = words.next();
     let (Some(device), Some(calls)) = (words.next(), words.next()) else {
-        return Err(anyhow!("usage: keep DEVICE CALLS [BUDGET [ROW]]"));
+        return Err(anyhow!(USAGE));
     };
     let budget = words.next();
     let row = words.next();
     if words.next().is_some() {
-        return Err(anyhow!("usage: keep DEVICE CALLS [BUDGET [ROW]]"));
+        return Err(anyhow!(USAGE));
     }
     let text = fs::read_to_string(rt, calls.as_str())?;
     match budget {

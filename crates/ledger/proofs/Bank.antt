@@ -13,7 +13,6 @@ use Rattle.columns.specs.RateRows.{rate_row, rate_rows}
 use Rattle.columns.specs.Rows.{row, rows}
 use Rattle.columns.proofs.First.{length_first, get_or_first, first_more, first_none}
 use Rattle.ledger.specs.Meaning.{bank, rates_set, rate_at}
-use Rattle.ledger.specs.Whole.{Whole}
 use Rattle.ledger.specs.declared.Ledger.{Ledger}
 
 pub accounts_length : (a : ℕ) (ms : List ℕ) (rs : List Dated) → length (accounts_of a ms rs) ≡ length ms
@@ -82,7 +81,10 @@ rates_upto ms f (suc n) h =
     ∙ ap rates_in (accounts_put 0 ms rs (f n) no_account a (omega arith) u) ∙ rates-one-more xs a no_account y (omega (arith, accounts_length 0 ms rs)) l
     ∙ ap suc (rates_upto ms f n (λ i v. h i (omega arith)))
 
-pub bank_rates : (g : Ledger) → Whole g → rates_in (bank g).accounts ≡ g.rates.count
+pub bank_rates : (g : Ledger) → rates_in (bank g).accounts ≡ g.rates.count
 unfolding bank
-bank_rates g w =
-    rates_upto (limits_in_lem g.accounts) (rate_row g.rates) g.rates.count (λ i u. omega (arith, w.rates.owners i u, length_first (λ a. get_or g.accounts.limit.now a 0) g.accounts.count))
+bank_rates g =
+    rates_upto (limits_in_lem g.accounts) (rate_row g.rates) g.rates.count (λ i u. omega (arith, g.owners.owners i u, length_first (λ a. get_or g.accounts.limit.now a 0) g.accounts.count))
+
+-- what the bank says of the cells
+pub ruleset bank_cells = (bank_accounts, bank_limit, bank_bookings, bank_count, bank_row, bank_today, bank_done, bank_set, bank_rate, bank_rates)

@@ -1,3 +1,4 @@
+pub mod Facts
 pub mod Meaning
-pub mod Whole
+pub mod Made
 pub mod Opened

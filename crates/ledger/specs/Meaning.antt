@@ -1,6 +1,6 @@
 -- What a ledger means: the bank that lies in its columns, its rates in the order in which they were set, and what it was opened with. Assumes nothing: these are definitions.
-use Rattle.std.specs.Prelude.{ℕ, ◌+◌, List, [], ◌∷◌, length, ◌==◌, slice_index_or}
-use Rattle.bank.specs.Book.{pick, Rate, Account, Booking, Bank}
+use Rattle.std.specs.Prelude.{ℕ, List, [], ◌∷◌, length, slice_index_or}
+use Rattle.bank.specs.Book.{Rate, Account, Bank}
 use Rattle.bank.specs.Calls.{Limits}
 use Rattle.bank.specs.Effects.{Effect, books, marks, adds, rates, turns}
 use Rattle.model.specs.Register.{Dated, Register}
@@ -8,6 +8,7 @@ use Rattle.model.specs.Snapshot.{accounts_of}
 use Rattle.columns.specs.Cells.{limits_in_lem}
 use Rattle.columns.specs.RateRows.{rate_rows}
 use Rattle.columns.specs.Rows.{rows}
+use Rattle.ledger.specs.Facts.{backs, most_calls}
 use Rattle.ledger.specs.declared.Ledger.{Ledger}
 
 -- the bank that a ledger holds
@@ -44,14 +45,9 @@ sets_by n (adds x) = dated_all (length n.accounts) x.rates
 sets_by n (rates a r) = dated_all a (r ∷ [])
 sets_by n turns = []
 
--- how many bookings were taken back
-unfoldable pub backs : List Booking → ℕ
-backs [] = 0
-backs (b ∷ bs) = pick (b.back == 0) 0 1 + backs bs
-
--- the most calls that can have been counted: as many as four bytes tell, and one for each rate, booking, mark and day that was used up
+-- the most calls that it can have counted
 abbrev pub most_done : Ledger → ℕ
-most_done g = 4294967296 + g.rates.count + g.bookings.count + backs (rows g.bookings) + g.today
+most_done g = most_calls g.rates.count g.bookings.count (backs (rows g.bookings)) g.today
 
 -- a bank by which another number of calls was counted
 abbrev pub with_done : Bank → ℕ → Bank

@@ -5,15 +5,15 @@ use Rattle.bank.specs.Calls.{new_bank, Limits}
 use Rattle.bank.specs.Promise.{allowed}
 use Rattle.columns.specs.Sizes.{cents_for, numbers_for}
 use Rattle.ledger.specs.Meaning.{bank, rates_set, limits}
-use Rattle.ledger.specs.Whole.{Whole}
 use Rattle.ledger.specs.declared.Ledger.{Ledger}
 use Rattle.ledger.specs.declared.opening.Misfit.{Misfit}
-use Rattle.ledger.specs.declared.opening.Misfit.TheVariants.{Memory, Bounds}
+use Rattle.ledger.specs.declared.opening.Misfit.TheVariants.{Memory, Device, Bounds}
 use Rattle.ledger.specs.declared.opening.Refused.{Refused}
 
 -- the place of what does not fit
 abbrev pub place_of : Misfit → ℕ
 place_of Memory = 0
+place_of Device = 1
 place_of Bounds = 2
 
 -- what does not fit, of limits and so many lent cells: the limits first, then memory
@@ -22,7 +22,6 @@ misfit l cents numbers = pick (allowed l) (pick (nat_le (cents_for l) cents && n
 
 -- a new ledger with limits l
 pub record New (g : Ledger) (l : Limits) : Type 0 where
-  pub whole : Whole g
   pub bank_is : bank g ≡ new_bank
   pub rates_are : rates_set g ≡ []
   pub limits_are : limits g ≡ l

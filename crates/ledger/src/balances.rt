@@ -2,46 +2,51 @@
 ghost use Rattle.std.specs.Prelude.{◌≡◌, ◌<◌, length, pos, ◌-ℤ◌};
 ghost use Rattle.bank.specs.Book.{came, left};
 ghost use Rattle.bank.specs.Calls.{all_in, all_out};
+ghost use Rattle.bank.specs.Sums.{tally};
+ghost use Rattle.columns.specs.Parts.{counts};
 ghost use Rattle.ledger.specs.Meaning.{bank};
-ghost use Rattle.ledger.specs.Whole.{Whole};
 
 use crate::Ledger;
-use columns::shares::{brings_to, takes_from};
+use columns::chains::{Incoming, Outgoing, Side};
+use columns::shares::share;
 
 impl Ledger<'_> {
-    // What came to an account by a value day, as known at the end of a day: a walk along its chain.
+    // What came to an account by a value day, as known at the end of a day.
+    #[tactic(auto, using(bank::proofs::Tally::came_tally))]
     pub fn came(&self, account: u32, value_day: u32, known_day: u32) -> u64
-        requires whole { Whole self.now }
         requires there { account < length (bank self.now).accounts }
         ensures { result ≡ came known_day account value_day (bank self.now).bookings }
     {
-        let mut sum = 0;
-        let mut next = self.chains.newest_to(account);
-        while let Some(i) = next {
-            sum += brings_to(self.bookings.get(i), account, value_day, known_day);
-            next = self.chains.before_to(i);
-        }
-        sum
+        self.moved::<Incoming>(account, value_day, known_day)
     }
 
-    // What left an account by a value day, as known at the end of a day: a walk along its chain.
+    // What left an account by a value day, as known at the end of a day.
+    #[tactic(auto, using(bank::proofs::Tally::left_tally))]
     pub fn left(&self, account: u32, value_day: u32, known_day: u32) -> u64
-        requires whole { Whole self.now }
         requires there { account < length (bank self.now).accounts }
         ensures { result ≡ left known_day account value_day (bank self.now).bookings }
     {
+        self.moved::<Outgoing>(account, value_day, known_day)
+    }
+
+    // What was moved on a side of an account: a walk along its chain.
+    fn moved<S: Side>(&self, account: u32, value_day: u32, known_day: u32) -> u64
+        requires there { account < length (bank self.now).accounts }
+        ensures { result ≡ tally (counts S.party_of known_day account value_day) (bank self.now).bookings }
+    {
+        let chain = S::chain(&self.chains);
         let mut sum = 0;
-        let mut next = self.chains.newest_from(account);
+        let mut next = chain.newest(account);
         while let Some(i) = next {
-            sum += takes_from(self.bookings.get(i), account, value_day, known_day);
-            next = self.chains.before_from(i);
+            sum += share::<S>(self.bookings.get(i), account, value_day, known_day);
+            next = chain.before(i);
         }
         sum
     }
 
     // What an account has by a value day, as known at the end of a day: what came less what left.
+    #[tactic(auto, using(crate::proofs::Walk::few))]
     pub fn balance(&self, account: u32, value_day: u32, known_day: u32) -> i64
-        requires whole { Whole self.now }
         requires there { account < length (bank self.now).accounts }
         ensures { result ≡ pos (came known_day account value_day (bank self.now).bookings) -ℤ pos (left known_day account value_day (bank self.now).bookings) }
     {
@@ -51,8 +56,8 @@ impl Ledger<'_> {
     }
 
     // What came to all accounts and what left all, by today as known today.
+    #[tactic(auto, using(crate::proofs::Live::bank_sums))]
     pub fn sums(&self) -> (u64, u64)
-        requires { Whole self.now }
         ensures came { result.0 ≡ all_in (bank self.now) (length (bank self.now).accounts) }
         ensures left { result.1 ≡ all_out (bank self.now) (length (bank self.now).accounts) }
     {

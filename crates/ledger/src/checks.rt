@@ -4,7 +4,6 @@ ghost use Rattle.bank.specs.Book.{came, left};
 ghost use Rattle.bank.specs.Builders.{booking_at, early_enough};
 ghost use Rattle.bank.specs.Calls.{enough, ordered, rates_in};
 ghost use Rattle.ledger.specs.Meaning.{bank, limits};
-ghost use Rattle.ledger.specs.Whole.{Whole};
 ghost use Rattle.wire.specs.Booked.{booked};
 
 use crate::Ledger;
@@ -13,86 +12,63 @@ use wire::booking::Booking;
 // The most cents that orders bring to one account.
 const MOST_ORDERED: u64 = 100_000_000_000;
 
+#[tactic(auto, using(crate::proofs::Live::bank_sums))]
 impl Ledger<'_> {
     // The account of a number, if there is one.
     pub fn account(&self, number: u64) -> Option<u32>
-        requires { Whole self.now }
         ensures { elim result [ Some a ↦ (a ≡ number) × (number < length (bank self.now).accounts) | None ↦ length (bank self.now).accounts ≤ number ] }
     {
-        if number < self.accounts.count() as u64 {
-            Some(number as u32)
-        } else {
-            None
-        }
+        (number < self.accounts.count() as u64).then(|| number as u32)
     }
 
     // A value day that an order of today may have: today, or at most 60 days before.
     pub fn value_day(&self, day: u64) -> Option<u32>
-        requires { Whole self.now }
         ensures { elim result [ Some d ↦ (d ≡ day) × (early_enough (bank self.now).today day ≡ true) | None ↦ early_enough (bank self.now).today day ≡ false ] }
     {
         let today = self.today as u64;
-        if day <= today && today <= day + 60 {
-            Some(day as u32)
-        } else {
-            None
-        }
+        (day <= today && today <= day + 60).then(|| day as u32)
     }
 
     // A day at whose end things are known: today, or one before.
     pub fn known_day(&self, day: u64) -> Option<u32>
-        requires { Whole self.now }
         ensures { elim result [ Some d ↦ (d ≡ day) × (day ≤ (bank self.now).today) | None ↦ (bank self.now).today < day ] }
     {
-        if day <= self.today as u64 {
-            Some(day as u32)
-        } else {
-            None
-        }
+        (day <= self.today as u64).then(|| day as u32)
     }
 
     // The day up to which values count for a question: no booking has a later one than today.
     pub fn last_value(&self, day: u64) -> u32
-        requires { Whole self.now }
         ensures value { result ≡ min day (bank self.now).today }
         ensures came { (k a : ℕ) → came k a result (bank self.now).bookings ≡ came k a day (bank self.now).bookings }
         ensures left { (k a : ℕ) → left k a result (bank self.now).bookings ≡ left k a day (bank self.now).bookings }
     {
-        if day <= self.today as u64 {
-            day as u32
-        } else {
-            self.today
-        }
+        day.min(self.today as u64) as u32
     }
 
     // The booking of a number, if there is one.
     pub fn find_booking(&self, number: u64) -> Option<Booking>
-        requires { Whole self.now }
         ensures { elim result [ Some b ↦ (number < length (bank self.now).bookings) × (booked b ≡ booking_at (bank self.now) number) | None ↦ length (bank self.now).bookings ≤ number ] }
     {
+        // A closure for `then` would have to repeat what `booking` ensures, so an `if` is plainer.
         if number < self.bookings.count() as u64 {
-            Some(self.bookings.get(number as usize))
+            Some(self.booking(number as usize))
         } else {
             None
         }
     }
 
     // Is there enough on an account to move an amount?
+    #[tactic(auto, using(crate::proofs::Live::bank_sums), unfolding(bank::specs::Calls::enough))]
     pub fn enough(&self, account: u32, amount: u64) -> bool
-        requires whole { Whole self.now }
         requires there { account < length (bank self.now).accounts }
         requires small { amount ≤ 100000000000 }
         ensures { result ≡ enough (bank self.now) account amount }
     {
-        if account < 2 {
-            return true;
-        }
-        self.accounts.get(account as usize).covers(amount)
+        account < 2 || self.accounts.get(account as usize).covers(amount)
     }
 
     // What came to an account by orders that were not taken back.
     pub fn ordered(&self, account: u32) -> u64
-        requires whole { Whole self.now }
         requires there { account < length (bank self.now).accounts }
         ensures { result ≡ ordered account (bank self.now).bookings }
     {
@@ -101,7 +77,6 @@ impl Ledger<'_> {
 
     // Would orders to an account, with one more of an amount, still be within 10^11 cents?
     pub fn has_room_for_order(&self, account: u32, amount: u64) -> bool
-        requires whole { Whole self.now }
         requires there { account < length (bank self.now).accounts }
         requires small { amount ≤ 100000000000 }
         ensures { result ≡ nat_le (ordered account (bank self.now).bookings + amount) 100000000000 }
@@ -111,7 +86,6 @@ impl Ledger<'_> {
 
     // Is there room for one more rate?
     pub fn has_room_for_rate(&self) -> bool
-        requires { Whole self.now }
         ensures { result ≡ nat_lt (rates_in (bank self.now).accounts) (limits self.now).rates }
     {
         self.rates.count() < self.rates.capacity()
@@ -119,7 +93,6 @@ impl Ledger<'_> {
 
     // Is there room for one more account, with a rate?
     pub fn has_room_for_account(&self) -> bool
-        requires { Whole self.now }
         ensures { result ≡ (nat_lt (length (bank self.now).accounts) (limits self.now).accounts && nat_lt (rates_in (bank self.now).accounts) (limits self.now).rates) }
     {
         self.accounts.count() < self.accounts.capacity() && self.has_room_for_rate()

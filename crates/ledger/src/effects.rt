@@ -3,39 +3,38 @@ ghost use Rattle.std.specs.Prelude.{◌≡◌, ◌+◌, ◌<◌, ◌≤◌, leng
 ghost use Rattle.bank.specs.Builders.{new_account, booking_at, counted};
 ghost use Rattle.bank.specs.Calls.{rates_in};
 ghost use Rattle.bank.specs.Effects.{books, marks, adds, rates, turns};
+ghost use Rattle.ledger.specs.Facts.{Fit};
 ghost use Rattle.ledger.specs.Meaning.{bank, limits, most_done};
-ghost use Rattle.ledger.specs.Whole.{Fit, Whole, Made, Becomes};
+ghost use Rattle.ledger.specs.Made.{Made, Becomes};
 ghost use Rattle.wire.specs.Booked.{booked};
 
 use crate::Ledger;
 use columns::rates::Rate;
 use wire::booking::Booking;
 
+#[tactic(auto, using(crate::proofs::Live::bank_sums))]
 impl Ledger<'_> {
     // Adds an account with a limit and a rate from today on, and gives its number.
     pub fn add_account(&mut self, limit: u64, rate: u32) -> u32
-        requires whole { Whole self.old }
         requires small { limit ≤ 100000000000 }
         requires account { length (bank self.old).accounts < (limits self.old).accounts }
         requires rate { rates_in (bank self.old).accounts < (limits self.old).rates }
         ensures number { result ≡ length (bank self.old).accounts }
         ensures made { Made self.old self.new (adds (new_account (bank self.old).today limit rate)) }
     {
-        let number = self.accounts.count();
+        let account = self.account_count() as u32;
         let since = self.today;
-        self.accounts.append(limit);
-        self.rates.append(Rate {
-            account: number as u32,
+        self.restore_account(limit);
+        self.add_rate(Rate {
+            account,
             since,
             rate,
         });
-        self.chains.begin(number);
-        number as u32
+        account
     }
 
     // Adds a rate of an account that is there.
     pub fn add_rate(&mut self, x: Rate)
-        requires whole { Whole self.old }
         requires account { x.account < length (bank self.old).accounts }
         requires rate { rates_in (bank self.old).accounts < (limits self.old).rates }
         ensures { Made self.old self.new (rates x.account (record { since = x.since; rate = x.rate })) }
@@ -45,7 +44,6 @@ impl Ledger<'_> {
 
     // Adds a booking under the next number.
     pub fn append(&mut self, b: Booking)
-        requires whole { Whole self.old }
         requires fit { Fit (bank self.old).today (length (bank self.old).accounts) (booked b) }
         requires small { b.amount ≤ 4000000000000 }
         requires space { length (bank self.old).bookings < (limits self.old).bookings }
@@ -59,7 +57,6 @@ impl Ledger<'_> {
 
     // Marks a booking as taken back today.
     pub fn take_back(&mut self, number: usize)
-        requires whole { Whole self.old }
         requires there { number < length (bank self.old).bookings }
         requires counts { (booking_at (bank self.old) number).back ≡ 0 }
         ensures { Made self.old self.new (marks number) }
@@ -70,8 +67,8 @@ impl Ledger<'_> {
     }
 
     // Begins the next day.
+    #[tactic(auto, using(crate::proofs::Live::bank_sums), unfolding(crate::specs::Meaning::bank, crate::specs::Meaning::rates_set, bank::specs::Effects::made))]
     pub fn begin_day(&mut self)
-        requires whole { Whole self.old }
         requires today { (bank self.old).today < 3650 }
         ensures { Made self.old self.new turns }
     {
@@ -79,8 +76,8 @@ impl Ledger<'_> {
     }
 
     // Counts one more call that changed the book.
+    #[tactic(auto, unfolding(crate::specs::Meaning::bank, crate::specs::Meaning::rates_set))]
     pub fn count_call(&mut self)
-        requires whole { Whole self.old }
         requires unit { self.old.done < most_done self.old }
         ensures { Becomes self.old self.new (counted (bank self.old)) }
     {

@@ -1,5 +1,15 @@
 // The book of a bank in lent memory: opening, effects, checks in one step, balances and sums.
+// That an account is there stands at each function that reads it: no type of its number could tell of which book it is.
 #![tactic(auto)]
+
+ghost use Rattle.std.specs.Prelude.{ℕ, ◌<◌, ◌≤◌, slice_index};
+ghost use Rattle.std.proofs.Props.{props};
+ghost use Rattle.columns.specs.Cells.{Sums};
+ghost use Rattle.columns.specs.Links.{Linkable, Chained};
+ghost use Rattle.columns.specs.RateRows.{Rated};
+ghost use Rattle.columns.specs.Rows.{row, rows};
+ghost use Rattle.columns.specs.Spare.{Spare};
+ghost use Rattle.ledger.specs.Facts.{Fit, backs, most_calls};
 
 use columns::accounts::Accounts;
 use columns::bookings::Bookings;
@@ -26,4 +36,21 @@ pub struct Ledger<'a> {
     today: u32,
     // how many calls were taken that changed the book
     done: u64,
+    // no limit passes 10 ^ 11
+    ghost small: { (a : ℕ) → a < accounts.count → slice_index accounts.limit.now a ≤ 100000000000 },
+    // each rate is of an account that is there
+    ghost owners: { Rated rates accounts.count } by { Prim.hlevel props },
+    // each booking is between accounts that are there, and not dated after today
+    ghost fit: { (i : ℕ) → i < bookings.count → Fit today accounts.count (row bookings i) } by { Prim.hlevel props },
+    // the running sums are those of the bookings that are not taken back
+    ghost sums: { Sums accounts (rows bookings) } by { Prim.hlevel props },
+    // the chains have room for all accounts and bookings, and lead through them by both sides
+    ghost linkable: { Linkable chains accounts.capacity bookings.capacity } by { Prim.hlevel props },
+    ghost incoming: { Chained chains.incoming (λ i. (row bookings i).to) bookings.count accounts.count } by { Prim.hlevel props },
+    ghost outgoing: { Chained chains.outgoing (λ i. (row bookings i).from) bookings.count accounts.count } by { Prim.hlevel props },
+    // there are scratch cells for all accounts
+    ghost spare: { Spare scratch accounts.capacity } by { Prim.hlevel props },
+    ghost last_day: { today ≤ 3650 },
+    // no more calls were counted than changes can have used up
+    ghost most: { done ≤ most_calls rates.count bookings.count (backs (rows bookings)) today },
 }

@@ -29,12 +29,14 @@ use columns::rates::Rates;
 use columns::scratch::Scratch;
 
 // What does not fit at opening.
-#[derive(Clone, Copy)]
+#[derive(Clone, Copy, Debug, PartialEq, Eq)]
 pub enum Misfit {
     // lent memory is too short
-    Memory,
+    Memory = 0,
+    // the device is too short, or holds no such book
+    Device = 1,
     // the limits are not allowed
-    Bounds,
+    Bounds = 2,
 }
 
 impl Misfit {
@@ -42,10 +44,7 @@ impl Misfit {
     pub fn place(self) -> u64
         ensures { result ≡ place_of self }
     {
-        match self {
-            Misfit::Memory => 0,
-            Misfit::Bounds => 2,
-        }
+        self as u64
     }
 }
 
@@ -64,11 +63,8 @@ pub fn what_misfits(limits: Limits, cents: usize, numbers: usize) -> Option<Misf
     if !limits.are_allowed() {
         return Some(Misfit::Bounds);
     }
-    if limits.cents_needed() <= cents && limits.numbers_needed() <= numbers {
-        None
-    } else {
-        Some(Misfit::Memory)
-    }
+    let fits = limits.cents_needed() <= cents && limits.numbers_needed() <= numbers;
+    (!fits).then_some(Misfit::Memory)
 }
 
 impl<'a> Ledger<'a> {

@@ -3,14 +3,15 @@ ghost use Rattle.std.specs.Prelude.{◌≡◌, ◌<◌, length};
 ghost use Rattle.bank.specs.Builders.{booking_at};
 ghost use Rattle.bank.specs.Calls.{limit_of};
 ghost use Rattle.columns.specs.RateRows.{dated};
+ghost use Rattle.columns.specs.Rows.{booked_days};
 ghost use Rattle.ledger.specs.Meaning.{bank, rates_set, rate_at};
-ghost use Rattle.ledger.specs.Whole.{Whole};
 ghost use Rattle.wire.specs.Booked.{booked};
 
 use crate::Ledger;
 use columns::rates::Rate;
 use wire::booking::Booking;
 
+#[tactic(auto, using(crate::proofs::Bank::bank_cells))]
 impl Ledger<'_> {
     // The day that it is.
     pub fn today(&self) -> u32
@@ -49,7 +50,6 @@ impl Ledger<'_> {
 
     // The limit of an account.
     pub fn limit(&self, account: u32) -> u64
-        requires whole { Whole self.now }
         requires there { account < length (bank self.now).accounts }
         ensures { result ≡ limit_of (bank self.now) account }
     {
@@ -58,7 +58,6 @@ impl Ledger<'_> {
 
     // Rate `i`, in the order in which they were set.
     pub fn rate(&self, i: usize) -> Rate
-        requires whole { Whole self.now }
         requires there { i < length (rates_set self.now) }
         ensures { dated result ≡ rate_at self.now i }
     {
@@ -67,10 +66,16 @@ impl Ledger<'_> {
 
     // Booking `i`.
     pub fn booking(&self, i: usize) -> Booking
-        requires whole { Whole self.now }
         requires there { i < length (bank self.now).bookings }
         ensures { booked result ≡ booking_at (bank self.now) i }
     {
         self.bookings.get(i)
+    }
+
+    // The days on which the bookings were booked, in order.
+    pub fn booked_days(&self) -> &[u32]
+        ensures { result.now ≡ booked_days (bank self.now).bookings }
+    {
+        self.bookings.booked_days()
     }
 }

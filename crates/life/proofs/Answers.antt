@@ -3,7 +3,7 @@ use Rattle.std.proofs.Common.{◌≡◌, ℕ, ◌+◌, ◌-◌, ◌≤◌, List,
 use Rattle.std.proofs.lemmas.List.{length-take, take_at, drop-drop}
 use Rattle.device.specs.Rows.{with_bytes}
 use Rattle.life.specs.declared.heard.Heard.{Heard}
-use Rattle.life.specs.Life.{Behind}
+use Rattle.life.specs.Heard.{Behind}
 
 -- one more behind the others
 pub more_heard : (at : ℕ) (ys xs : List ℕ) → at + length ys ≤ length xs → take (at + length ys) (with_bytes xs at ys) ≡ take at xs ++ ys

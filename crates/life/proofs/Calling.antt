@@ -18,9 +18,10 @@ use Rattle.ledger.specs.Meaning.{bank, limits}
 use Rattle.session.specs.declared.Session.{Session}
 use Rattle.session.specs.declared.Stage.{Stage}
 use Rattle.session.specs.declared.Stage.TheVariants.{Idle, Writing, Flushing, Saying}
-use Rattle.session.specs.Session.{memory, left_of, left, answer_of_lem, Ready}
+use Rattle.session.specs.Session.{memory, left_of, left, answer_of_lem}
 use Rattle.session.proofs.Replies.{plain_short}
-use Rattle.life.specs.Life.{World, after_acts, Space, Fits, rows_read}
+use Rattle.life.specs.Heard.{rows_read}
+use Rattle.life.specs.Life.{World, after_acts, Space, Fits}
 use Rattle.life.proofs.Runs.{take_two}
 
 -- the block of the first write
@@ -31,36 +32,36 @@ place_of (flush ∷ xs) = 0
 place_of (say a ∷ xs) = 0
 
 -- a block that is written is one of the journal's
-placed : (s t : Session) (c : Call) → Ready s → left t ≡ (first_program (limits s.ledger)).does (memory s) c → t.stage ≡ Writing → t.place < room (limits s.ledger)
+placed : (s t : Session) (c : Call) (k : ℕ) → left t ≡ (first_program (limits s.book.ledger)).does (memory s) c → t.stage ≡ Writing k → k < room (limits s.book.ledger)
 unfolding place_of
-placed s t c r e w = go (first_call c && changes l (bank s.ledger) c) refl
+placed s t c k e w = go (first_call c && changes l (bank s.book.ledger) c) refl
   where
     l : Limits
-    l = limits s.ledger
+    l = limits s.book.ledger
 
-    here : t.place ≡ place_of (left t)
+    here : k ≡ place_of (left t)
     here = rw w refl
 
-    go : (b : Bool) → (first_call c && changes l (bank s.ledger) c) ≡ b → t.place < room l
+    go : (b : Bool) → (first_call c && changes l (bank s.book.ledger) c) ≡ b → k < room l
     go true q =
-        let p : t.place ≡ s.journal.count / 24 = here ∙ ap place_of (e ∙ taken_does l (memory s) c q) in
-        let f = and_parts (first_call c) (changes l (bank s.ledger) c) q in
-        let m = more l (bank s.ledger) c (and_parts (readable c) (plain c) f.0).1 f.1 in
-        omega (arith, p, m.0, m.1, r.counted)
-    go false q = let p : t.place ≡ 0 = here ∙ ap place_of (e ∙ quiet_does l (memory s) c q) in omega (arith, p)
+        let p : k ≡ s.journal.count / 24 = here ∙ ap place_of (e ∙ taken_does l (memory s) c q) in
+        let f = and_parts (first_call c) (changes l (bank s.book.ledger) c) q in
+        let m = more l (bank s.book.ledger) c (and_parts (readable c) (plain c) f.0).1 f.1 in
+        omega (arith, p, m.0, m.1, s.joined.counted)
+    go false q = let p : k ≡ 0 = here ∙ ap place_of (e ∙ quiet_does l (memory s) c q) in omega (arith, p)
 
-fits_stage : (g : Stage) (k n : ℕ) (b : List ℕ) (a : Reply) (w : Space) → w.pending ≡ 0 → 0 < w.most → (g ≡ Writing → k < w.blocks) → length b ≡ 512 → length (written_answer a) ≤ 17 → 17 + n ≤ w.free →
-    Fits n w (left_of g k b a)
-fits_stage Idle k n b a w p m h d i f = (p, omega (arith, f))
-fits_stage Writing k n b a w p m h d i f = (omega (arith, p, m), h refl, d, (omega (arith, i, f), (refl, omega (arith, i, f))))
-fits_stage Flushing k n b a w p m h d i f = (omega (arith, i, f), (refl, omega (arith, i, f)))
-fits_stage Saying k n b a w p m h d i f = (omega (arith, i, f), (p, omega (arith, i, f)))
+fits_stage : (g : Stage) (n : ℕ) (b : List ℕ) (a : Reply) (w : Space) → w.pending ≡ 0 → 0 < w.most → ((k : ℕ) → g ≡ Writing k → k < w.blocks) → length b ≡ 512 → length (written_answer a) ≤ 17 → 17 + n ≤ w.free →
+    Fits n w (left_of g b a)
+fits_stage Idle n b a w p m h d i f = (p, omega (arith, f))
+fits_stage (Writing k) n b a w p m h d i f = (omega (arith, p, m), h k refl, d, (omega (arith, i, f), (refl, omega (arith, i, f))))
+fits_stage Flushing n b a w p m h d i f = (omega (arith, i, f), (refl, omega (arith, i, f)))
+fits_stage Saying n b a w p m h d i f = (omega (arith, i, f), (p, omega (arith, i, f)))
 
 -- there is room for the acts of a call where nothing is pending
-pub call_fits : (s t : Session) (c : Call) (n : ℕ) (w : Space) → Ready s → Ready t → left t ≡ (first_program (limits s.ledger)).does (memory s) c → room (limits s.ledger) ≤ w.blocks →
+pub call_fits : (s t : Session) (c : Call) (n : ℕ) (w : Space) → left t ≡ (first_program (limits s.book.ledger)).does (memory s) c → room (limits s.book.ledger) ≤ w.blocks →
     w.pending ≡ 0 → 0 < w.most → 17 + n ≤ w.free → Fits n w (left t)
-call_fits s t c n w r r' e b p m f =
-    fits_stage t.stage t.place n t.journal.block.now (answer_of_lem t) w p m (λ g. omega (arith, placed s t c r e g, b)) r'.journal.whole (plain_short t.answer) f
+call_fits s t c n w e b p m f =
+    fits_stage t.stage n t.journal.block.now (answer_of_lem t) w p m (λ k g. omega (arith, placed s t c k e g, b)) t.journal.whole (plain_short t.answer) f
 
 -- the row that comes next
 rest_cons : (rows : List (Bor (List ℕ))) (i : ℕ) (d : Bor (List ℕ)) → i < length rows → drop i (rows_read rows) ≡ read_call_lem (get_or rows i d).now ∷ drop (suc i) (rows_read rows)
@@ -95,8 +96,8 @@ live_step l m m' c cs xs v w n n' p q r s =
     ∙ sym (take_two n v xs (acts (first_program l) ((first_program l).next m c) cs)) ∙ ap (λ x. after_acts v (take n (x ++ acts (first_program l) ((first_program l).next m c) cs))) q
 
 module _ (l : Limits) (rows : List (Bor (List ℕ))) (i : ℕ) (d : Bor (List ℕ)) where
-  pub lived_more : (s t u : Session) (v w : World) (n n' : ℕ) → i < length rows → limits s.ledger ≡ l → memory u ≡ memory t →
-      memory t ≡ (first_program (limits s.ledger)).next (memory s) (read_call_lem (get_or rows i d).now) → left t ≡ (first_program (limits s.ledger)).does (memory s) (read_call_lem (get_or rows i d).now) →
+  pub lived_more : (s t u : Session) (v w : World) (n n' : ℕ) → i < length rows → limits s.book.ledger ≡ l → memory u ≡ memory t →
+      memory t ≡ (first_program (limits s.book.ledger)).next (memory s) (read_call_lem (get_or rows i d).now) → left t ≡ (first_program (limits s.book.ledger)).does (memory s) (read_call_lem (get_or rows i d).now) →
       w ≡ after_acts v (take n (left t)) → n' ≡ n - length (left t) →
       after_acts w (take n' (acts (first_program l) (memory u) (drop (i + 1) (rows_read rows)))) ≡ after_acts v (take n (acts (first_program l) (memory s) (drop i (rows_read rows))))
   lived_more s t u v w n n' lt e m x y p q =

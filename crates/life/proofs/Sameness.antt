@@ -1,57 +1,37 @@
 -- A session that did some acts: only how far it came has changed.
-use Rattle.std.proofs.Common.{◌≡◌, ℕ, [], length, take, sym, refl, ap, ◌∙◌, subst, arith}
-use Rattle.bank.specs.Promise.{room}
-use Rattle.wire.specs.Answered.{answered, written_answer}
-use Rattle.wire.specs.declared.answer.Answer.{Answer as Code}
+use Rattle.std.proofs.Common.{◌≡◌, refl, ap, ◌∙◌}
 use Rattle.ledger.specs.Meaning.{limits}
-use Rattle.ledger.specs.declared.Ledger.{Ledger}
-use Rattle.desk.specs.Desk.{Kept}
-use Rattle.journal.specs.Tail.{bounds, Sound}
-use Rattle.journal.specs.declared.journal.Journal.{Journal}
+use Rattle.desk.specs.declared.Book.{Book}
 use Rattle.session.specs.declared.Session.{Session}
-use Rattle.session.specs.Session.{memory, answer_of_lem, Same, Ready}
-use Rattle.model.specs.First.{size}
-use Rattle.ledger.specs.Meaning.{bank}
+use Rattle.session.specs.Session.{memory, Same}
+use Rattle.sim.specs.declared.Disk.{Disk}
+use Rattle.life.specs.declared.heard.Listener.{Listener}
+use Rattle.life.specs.Life.{Stays}
+use Rattle.life.proofs.Answers.{behind_none, behind_more}
 
 pub same_none : (s : Session) → Same s s
-same_none s = record { ledger = refl; journal = refl; bytes = refl; length_is = refl; answer = refl; place = refl }
+same_none s = record { book = refl; journal = refl; bytes = refl; length_is = refl; answer = refl }
 
 pub same_more : (s t u : Session) → Same s t → Same t u → Same s u
 same_more s t u p q =
-    record {
-      ledger = q.ledger ∙ p.ledger;
-      journal = q.journal ∙ p.journal;
-      bytes = q.bytes ∙ p.bytes;
-      length_is = q.length_is ∙ p.length_is;
-      answer = q.answer ∙ p.answer;
-      place = q.place ∙ p.place;
-    }
+    record { book = q.book ∙ p.book; journal = q.journal ∙ p.journal; bytes = q.bytes ∙ p.bytes; length_is = q.length_is ∙ p.length_is; answer = q.answer ∙ p.answer }
 
 module _ (s t : Session) (e : Same s t) where
   pub memory_same : memory t ≡ memory s
-  memory_same = let a = e.ledger in let b = e.journal in cc
+  memory_same = let a = e.book in let b = e.journal in cc
 
-  pub limits_same : limits t.ledger ≡ limits s.ledger
-  limits_same = ap limits e.ledger
+  pub limits_same : limits t.book.ledger ≡ limits s.book.ledger
+  limits_same = ap (λ (b : Book). limits b.ledger) e.book
 
-  spoken_same : take s.length s.bytes.now ≡ written_answer (answer_of_lem s) → take t.length t.bytes.now ≡ written_answer (answer_of_lem t)
-  spoken_same p =
-      ap (λ (n : ℕ). take n t.bytes.now) e.length_is ∙ ap (take s.length) e.bytes ∙ p ∙ ap (λ (a : Code). written_answer (answered a [])) (sym e.answer)
+-- what stays, from one act to the next
+pub stays_none : (d : Disk) (e : Listener) → Stays d d e e
+stays_none d e = record { image = record { name = refl; size = refl }; room_is = refl; said_is = refl; behind = behind_none e.said.now e.heard }
 
-  pub ready_same : Ready s → Ready t
-  ready_same r =
-      let m = limits_same in
-      record {
-        kept = subst Kept (sym e.ledger) r.kept;
-        journal = subst Sound (sym e.journal) r.journal;
-        joined =
-            record {
-              bounds_are = ap bounds e.journal ∙ r.joined.bounds_are ∙ sym m;
-              format_is = ap (λ (j : Journal). j.format) e.journal ∙ r.joined.format_is;
-              epoch_is = ap (λ (j : Journal). j.epoch) e.journal ∙ r.joined.epoch_is;
-              blocks_are = ap (λ (j : Journal). j.blocks) e.journal ∙ r.joined.blocks_are ∙ ap room (sym m);
-            };
-        counted = let z = ap (λ (g : Ledger). size (bank g)) e.ledger in let w = ap (λ (j : Journal). j.count) e.journal in omega (arith, r.counted);
-        roomy = let z = ap length e.bytes in omega (arith, r.roomy);
-        spoken = spoken_same r.spoken;
-      }
+pub stays_more : (d f h : Disk) (e g i : Listener) → Stays d f e g → Stays f h g i → Stays d h e i
+stays_more d f h e g i p q =
+    record {
+      image = record { name = q.image.name ∙ p.image.name; size = q.image.size ∙ p.image.size };
+      room_is = q.room_is ∙ p.room_is;
+      said_is = q.said_is ∙ p.said_is;
+      behind = behind_more e.said.now g.said.now i.said.now e.heard g.heard i.heard p.behind q.behind;
+    }

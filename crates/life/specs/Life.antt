@@ -1,5 +1,5 @@
 -- A session's life on the simulated device: what its acts make of the device and of what is heard. Assumes nothing: these are definitions.
-use Rattle.std.specs.Prelude.{◌≡◌, ℕ, suc, ◌+◌, ◌-◌, ◌*◌, ◌/◌, ◌<◌, ◌≤◌, Bool, true, false, ◌&&◌, ◌⊎◌, List, [], ◌∷◌, ◌++◌, map, length, take, drop, Some, None, Ok, Err, Option, Result, nat_le}
+use Rattle.std.specs.Prelude.{◌≡◌, ℕ, suc, ◌+◌, ◌-◌, ◌*◌, ◌/◌, ◌<◌, ◌≤◌, Bool, true, false, ◌&&◌, ◌⊎◌, List, [], ◌∷◌, ◌++◌, length, take, drop, Some, None, Ok, Err, Option, Result, nat_le}
 use Rattle.std.specs.Borrow.{Bor}
 use Rattle.device.specs.Device.{pick, write, flush, say, acts, said}
 use Rattle.bank.specs.Calls.{Call, Answer, Limits, answers, ran, new_bank}
@@ -8,15 +8,18 @@ use Rattle.bank.specs.Promise.{allowed, all_plain}
 use Rattle.bank.specs.Promise.{room as blocks_for}
 use Rattle.model.specs.First.{first_program, FirstReading}
 use Rattle.wire.specs.Answered.{written_answer}
-use Rattle.wire.specs.Format.{read_call_lem}
 use Rattle.blocks.specs.Blocks.{device_of}
 use Rattle.sim.specs.Held.{Held, at_rest, done, dones}
 use Rattle.sim.specs.Cut.{cut_by}
-use Rattle.sim.specs.Sims.{holds, room}
-use Rattle.sim.specs.declared.Unflushed.{Unflushed}
+use Rattle.sim.specs.Sims.{holds, room, SameImage}
 use Rattle.session.specs.Opening.{suffices}
+use Rattle.ledger.specs.declared.opening.Misfit.{Misfit}
+use Rattle.ledger.specs.declared.opening.Misfit.TheVariants.{Memory, Device, Bounds}
+use Rattle.life.specs.Heard.{rows_read, spoken_in, free_in, Behind}
 use Rattle.life.specs.declared.heard.Heard.{Heard}
 use Rattle.life.specs.declared.lent.Lent.{Lent}
+use Rattle.life.specs.declared.heard.Listener.{Listener}
+use Rattle.sim.specs.declared.Disk.{Disk}
 
 -- what stands around a session: what the device holds, the bytes of the answers that were heard, one behind another, and how many answers these are
 pub record World : Type 0 where
@@ -24,27 +27,9 @@ pub record World : Type 0 where
   pub spoken : List ℕ
   pub heard : ℕ
 
--- the bytes that were heard
-abbrev pub spoken_in : List ℕ → Heard → List ℕ
-spoken_in bs h = take h.bytes bs
-
--- and how many more can be
-abbrev pub free_in : List ℕ → Heard → ℕ
-free_in bs h = length bs - h.bytes
-
--- what was heard lies in the lent bytes, and each answer has one at least
-pub record Listens (bs : List ℕ) (h : Heard) : Type 0 where
-  pub inside : h.bytes ≤ length bs
-  pub counted : h.answers ≤ h.bytes
-
--- more was heard, and the bytes behind it are as they were
-pub record Behind (before : List ℕ) (h : Heard) (after : List ℕ) (k : Heard) : Type 0 where
-  pub grown : h.bytes ≤ k.bytes
-  pub stays : drop k.bytes after ≡ drop k.bytes before
-
--- the world that an image, the writes that are not safe yet and what was heard are
-abbrev pub world : List ℕ → Unflushed → List ℕ → Heard → World
-world image u bs h = record { held = holds image u; spoken = spoken_in bs h; heard = h.answers }
+-- the world that a disk and a listener are
+abbrev pub world : Disk → Listener → World
+world d e = record { held = holds d; spoken = spoken_in e.said.now e.heard; heard = e.heard.answers }
 
 -- the world after an act
 abbrev pub after_act : World → Act → World
@@ -69,9 +54,9 @@ pub record Space : Type 0 where
   pub pending : ℕ
   pub free : ℕ
 
--- the room in an image, for writes and for what is heard
-abbrev pub space : List ℕ → Unflushed → List ℕ → Heard → Space
-space image u bs h = record { blocks = length image / 512; most = room u; pending = u.count; free = free_in bs h }
+-- the room on a disk, and for what is heard
+abbrev pub space : Disk → Listener → Space
+space d e = record { blocks = length d.image.now / 512; most = room d; pending = d.count; free = free_in e.said.now e.heard }
 
 -- there is room for acts: each write is of a whole block that is there, and can be pending; each answer can be heard; behind them nothing is pending, and n bytes can be heard
 abbrev pub Fits : ℕ → Space → List Act → Type 0
@@ -86,9 +71,12 @@ Fits n s (say a ∷ xs) =
 abbrev pub FitsOn : Space → List Act → Space → List Act → Type 0
 FitsOn s was t is = (n : ℕ) → Fits n s was → Fits n t is
 
--- the calls that rows of bytes are
-abbrev pub rows_read : List (Bor (List ℕ)) → List Call
-rows_read rows = map (λ r. read_call_lem r.now) rows
+-- what stays of the disk d and the listener e, which become f and g: the lent bytes, how much there is room for, and what lies behind the bytes that were heard
+pub record Stays (d f : Disk) (e g : Listener) : Type 0 where
+  pub image : SameImage d f
+  pub room_is : room f ≡ room d
+  pub said_is : g.said.ghost_name ≡ e.said.ghost_name
+  pub behind : Behind e.said.now e.heard g.said.now g.heard
 
 -- answers as bytes, one behind another
 unfoldable pub written_answers : List Answer → List ℕ
@@ -120,22 +108,22 @@ KeepsTheBook l image rows image-after said-after h =
 abbrev pub has_room : ℕ → ℕ → ℕ → ℕ → Bool
 has_room places blocks free calls = (nat_le 1 places && nat_le 512 blocks) && nat_le (17 * calls) free
 
--- the place of what does not fit: the limits first, then memory
-abbrev pub lacks : Limits → Lent → ℕ → ℕ → Option ℕ
+-- what does not fit: the limits first, then memory
+abbrev pub lacks : Limits → Lent → ℕ → ℕ → Option Misfit
 lacks l m free calls =
     pick (allowed l)
     (pick
     (suffices l (length m.cents.now) (length m.numbers.now) (length m.block.now) (length m.bytes.now)
-    && has_room (length m.places.now) (length m.blocks.now) free calls) None (Some 0))
-    (Some 2)
+    && has_room (length m.places.now) (length m.blocks.now) free calls) None (Some Memory))
+    (Some Bounds)
 
 -- a life is refused for what does not fit, or for a device that is too small or reads as no calls
-abbrev pub RefusedFor : Option ℕ → Limits → List ℕ → ℕ → Type 0
-RefusedFor (Some p) l image place = place ≡ p
-RefusedFor None l image place = (place ≡ 1) × ((ts : List Call) → 512 * blocks_for l ≤ length image → FirstReading l (device_of image) ts → ⊥)
+abbrev pub RefusedFor : Option Misfit → Limits → List ℕ → Misfit → Type 0
+RefusedFor (Some p) l image misfit = misfit ≡ p
+RefusedFor None l image misfit = (misfit ≡ Device) × ((ts : List Call) → 512 * blocks_for l ≤ length image → FirstReading l (device_of image) ts → ⊥)
 
 -- how a life ends: it was lived, and kept the book; or it was refused, and all is as it was
-abbrev pub Ended : Limits → Lent → List (Bor (List ℕ)) → ℕ → List ℕ → List ℕ → List ℕ → List ℕ → List ℕ → Result Heard ℕ → Type 0
+abbrev pub Ended : Limits → Lent → List (Bor (List ℕ)) → ℕ → List ℕ → List ℕ → List ℕ → List ℕ → List ℕ → Result Heard Misfit → Type 0
 Ended l m rows budget row image bs image-after bs-after (Ok h) =
     (lacks l m (length bs) (length rows) ≡ None) × (512 * blocks_for l ≤ length image) × Lived l image rows budget row bs image-after bs-after h × KeepsTheBook l image rows image-after bs-after h
-Ended l m rows budget row image bs image-after bs-after (Err place) = (image-after ≡ image) × (bs-after ≡ bs) × RefusedFor (lacks l m (length bs) (length rows)) l image place
+Ended l m rows budget row image bs image-after bs-after (Err misfit) = (image-after ≡ image) × (bs-after ≡ bs) × RefusedFor (lacks l m (length bs) (length rows)) l image misfit

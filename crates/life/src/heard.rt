@@ -2,7 +2,7 @@
 ghost use Rattle.std.specs.Prelude.{◌≡◌, ◌+◌, ◌-◌, ◌*◌, ◌<◌, ◌≤◌, true, ◌++◌, length, take, nat_le};
 ghost use Rattle.bank.specs.Promise.{readable, all_readable};
 ghost use Rattle.wire.specs.Format.{read_call_lem};
-ghost use Rattle.life.specs.Life.{spoken_in, free_in, Listens, Behind, rows_read};
+ghost use Rattle.life.specs.Heard.{rows_read, spoken_in, free_in, Behind};
 
 use wire::answer::most_answer;
 
@@ -13,11 +13,20 @@ pub struct Heard {
     pub bytes: usize,
 }
 
+// Lent bytes in which the answers that were heard stand one behind another; each has one byte at least.
+#[derive(Drop)]
+pub(crate) struct Listener<'a> {
+    said: &'a mut [u8],
+    heard: Heard,
+    ghost inside: { heard.bytes ≤ length said.now },
+    ghost counted: { heard.answers ≤ heard.bytes },
+}
+
 // The first n bytes, or all where there are fewer.
 pub(crate) fn first(bytes: &[u8], n: usize) -> &[u8]
     ensures { result.now ≡ take n bytes.now }
 {
-    if n < bytes.len() { &bytes[..n] } else { bytes }
+    &bytes[..n.min(bytes.len())]
 }
 
 // How many bytes the answer to a call may have at most: in the first stage no bookings follow it, whatever the call.
@@ -44,22 +53,43 @@ pub(crate) fn can_hear(said: &[u8], calls: &[&[u8]]) -> bool
     true
 }
 
-impl Heard {
-    // Hears an answer, behind the others.
-    pub(crate) fn hear(&mut self, said: &mut [u8], answer: &[u8])
-        requires listens { Listens said.old self.old }
-        requires some { 0 < length answer.now }
-        requires room { length answer.now ≤ free_in said.old self.old }
-        ensures listens { Listens said.new self.new }
-        ensures spoken { spoken_in said.new self.new ≡ spoken_in said.old self.old ++ answer.now }
-        ensures behind { Behind said.old self.old said.new self.new }
-        ensures answers { self.new.answers ≡ self.old.answers + 1 }
-        ensures free { free_in said.new self.new ≡ free_in said.old self.old - length answer.now }
+impl<'a> Listener<'a> {
+    // One that has heard nothing.
+    pub(crate) fn new(said: &'a mut [u8]) -> Listener<'a>
+        ensures same_said { result.said.ghost_name ≡ said.entry.ghost_name }
+        ensures said { result.said.now ≡ said.old }
+        ensures heard { result.heard ≡ record { answers = 0; bytes = 0 } }
     {
-        let at = self.bytes;
+        Listener {
+            said,
+            heard: Heard {
+                answers: 0,
+                bytes: 0,
+            },
+        }
+    }
+
+    // Hears an answer, behind the others.
+    pub(crate) fn hear(&mut self, answer: &[u8])
+        requires some { 0 < length answer.now }
+        requires room { length answer.now ≤ free_in self.old.said.now self.old.heard }
+        ensures same_said { self.new.said.ghost_name ≡ self.old.said.ghost_name }
+        ensures spoken { spoken_in self.new.said.now self.new.heard ≡ spoken_in self.old.said.now self.old.heard ++ answer.now }
+        ensures behind { Behind self.old.said.now self.old.heard self.new.said.now self.new.heard }
+        ensures answers { self.new.heard.answers ≡ self.old.heard.answers + 1 }
+        ensures free { free_in self.new.said.now self.new.heard ≡ free_in self.old.said.now self.old.heard - length answer.now }
+    {
+        let at = self.heard.bytes;
         let end = at + answer.len();
-        said[at..end].copy_from_slice(answer);
-        self.bytes = end;
-        self.answers += 1;
+        self.said[at..end].copy_from_slice(answer);
+        self.heard.bytes = end;
+        self.heard.answers += 1;
+    }
+
+    // What it has heard.
+    pub(crate) fn heard(&self) -> Heard
+        ensures { result ≡ self.now.heard }
+    {
+        self.heard
     }
 }

@@ -4,9 +4,10 @@
 use anyhow::anyhow;
 use life::lent::Lent;
 use life::life;
-use store::{BLOCK, BYTES, CENTS, LIMITS, NUMBERS};
-use text::answer::write_answer_line;
-use text::line::{LONGEST, read_line};
+use session::lent::Lent as Lending;
+use store::lines::{row_of, say_all};
+use store::memory::Memory;
+use store::{BLOCK, LIMITS};
 
 // The device: 272 blocks.
 const IMAGE: usize = 139_264;
@@ -94,68 +95,38 @@ const QUESTIONS: Life = Life {
     row: &[],
 };
 
-// How many bytes an answer has that no bookings follow, by its first: behind it stands one number, or two.
-fn answer_length(first: u8) -> usize {
-    if first == 1 { 9 } else { 17 }
-}
-
-// Prints the answers that stand one behind another.
-fn print_answers(rt: &HostRuntime, said: &[u8], answers: usize) -> anyhow::Result<()> {
-    let mut rest = said;
-    for _ in 0..answers {
-        if rest.is_empty() {
-            return Err(anyhow!("an answer without bytes"));
-        }
-        let n = answer_length(rest[0]).min(rest.len());
-        let line = write_answer_line(rt.alloc(), &rest[0..n])?;
-        println!(rt; "{line}")?;
-        rest = &rest[n..];
+// Plays a life under its heading: carries out its calls on the image until the budget of acts is used up and power is lost, and prints what was heard.
+fn play(rt: &HostRuntime, image: &mut [u8], of: Life) -> anyhow::Result<()> {
+    let heap = rt.alloc();
+    let heading = of.heading;
+    println!(rt; "{heading}")?;
+    let mut rows = Vec::new(heap);
+    for line in of.lines {
+        rows.push(row_of(heap, line)?)?;
     }
-    Ok(())
-}
-
-// Carries out calls on the image until the budget of acts is used up and power is lost, and prints what was heard.
-fn carry_out(
-    rt: &HostRuntime,
-    image: &mut [u8],
-    calls: &[&[u8]],
-    budget: u64,
-    row: &[u64],
-) -> anyhow::Result<()> {
+    let calls: Vec<&[u8]> = rows.iter().map(|row| row.as_slice()).collect(heap)?;
+    let mut memory = Memory::new(heap, LIMITS)?;
+    let mut places = [0];
+    let mut blocks = [0; BLOCK];
+    let Lending {
+        cents,
+        numbers,
+        block,
+        bytes,
+    } = memory.lend();
     let lent = Lent {
-        cents: &mut [0; CENTS],
-        numbers: &mut [0; NUMBERS],
-        block: &mut [0; BLOCK],
-        bytes: &mut [0; BYTES],
-        places: &mut [0; 1],
-        blocks: &mut [0; BLOCK],
+        cents,
+        numbers,
+        block,
+        bytes,
+        places: &mut places,
+        blocks: &mut blocks,
     };
     let mut said = [0; SAID];
-    let Ok(heard) = life(LIMITS, lent, image, &mut said, calls, budget, row) else {
+    let Ok(heard) = life(LIMITS, lent, image, &mut said, &calls, of.budget, of.row) else {
         return Err(anyhow!("the book cannot be opened"));
     };
-    print_answers(rt, &said[0..heard.bytes.min(SAID)], heard.answers)
-}
-
-// Reads a line; one that stands for no row of bytes is as a row of none.
-fn read<'a>(line: &str, row: &'a mut [u8; LONGEST]) -> &'a [u8] {
-    let n = read_line(line.as_bytes(), row).unwrap_or(0);
-    &row[0..n.min(LONGEST)]
-}
-
-// Plays a life under its heading.
-fn play(rt: &HostRuntime, image: &mut [u8], life: Life) -> anyhow::Result<()> {
-    let mut first = [0; LONGEST];
-    let mut second = [0; LONGEST];
-    let mut third = [0; LONGEST];
-    let calls = [
-        read(life.lines[0], &mut first),
-        read(life.lines[1], &mut second),
-        read(life.lines[2], &mut third),
-    ];
-    let heading = life.heading;
-    println!(rt; "{heading}")?;
-    carry_out(rt, image, &calls, life.budget, life.row)
+    say_all(rt, &said[..heard.bytes.min(SAID)], heard.answers)
 }
 
 // Plays all lives on one image, and asks after each.

@@ -22,11 +22,7 @@ fn mixed(checksum: u64, byte: u8) -> u64 {
 
 // A checksum with some bytes more.
 fn mixed_all(checksum: u64, bytes: &[u8]) -> u64 {
-    let mut sum = checksum;
-    for byte in bytes {
-        sum = mixed(sum, *byte);
-    }
-    sum
+    bytes.iter().fold(checksum, |sum, byte| mixed(sum, *byte))
 }
 
 impl Device {
@@ -63,10 +59,8 @@ impl Device {
     // Takes an answer, the first `count` of some bytes. One that begins with 0 is a refusal.
     pub fn say(&mut self, bytes: &[u8], count: usize) {
         let answer = &bytes[..count.min(bytes.len())];
-        if let Some(first) = answer.first() {
-            if *first == 0 {
-                self.refusals = self.refusals.wrapping_add(1);
-            }
+        if answer.first() == Some(&0) {
+            self.refusals = self.refusals.wrapping_add(1);
         }
         self.answers = self.answers.wrapping_add(1);
         self.checksum = mixed_all(self.checksum, answer);

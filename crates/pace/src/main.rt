@@ -1,20 +1,16 @@
 // pace ACCOUNTS BOOKINGS: opens a book of that size in memory, fills it through a session, and says how long each phase took.
 #![tactic(auto)]
 
-ghost use Rattle.std.specs.Prelude.{◌≡◌, ◌≤◌, Some, None};
-ghost use Rattle.session.specs.Session.{Ready};
-ghost use Rattle.session.specs.Opening.{Opens};
-
 use anyhow::anyhow;
-use blocks::BLOCK;
 use columns::limits::Limits;
 use disk::Device;
-use phase::{PHASES, Phase};
-use session::opening::{Opening, open};
+use phase::{PHASES, Phase, Size};
+use session::opening::open;
 use session::{Next, Session};
 use std::env;
 use std::time::{Duration, Instant};
-use wire::answer::most_answer;
+use store::memory::Memory;
+use store::stand;
 use wire::call::{Call, write_call};
 
 mod disk;
@@ -26,56 +22,69 @@ const USAGE: &str =
 // The longest row of a call.
 const ROW: usize = 33;
 
-// The session of a device whose blocks are all the same; an empty one has zeros.
-fn stand<'a>(opening: Opening<'a>, block: &[u8]) -> Option<Session<'a>>
-    requires { Opens opening }
-    ensures { elim result [ Some s ↦ Ready s | None ↦ Unit {0} ] }
-{
-    let mut opening = opening;
-    while let Some(_) = opening.next_block() {
-        if !opening.take_block(block) {
-            return None;
+// A session, and the device that its acts are done on.
+#[derive(Drop)]
+struct Runner<'a> {
+    session: Session<'a>,
+    device: Device,
+}
+
+impl Runner<'_> {
+    // Does all that the session has left to do.
+    fn perform(&mut self) {
+        loop {
+            match self.session.next_act() {
+                Next::Write(_) => self.device.write(self.session.block()),
+                Next::Flush => self.device.flush(),
+                Next::Say(count) => self.device.say(self.session.answer_bytes(), count),
+                Next::Done => return,
+            }
         }
     }
-    opening.stand()
-}
 
-// Does all that a session has left to do.
-fn perform(session: &mut Session, device: &mut Device)
-    requires { Ready session.old }
-    ensures { Ready session.new }
-{
-    loop {
-        match session.next_act() {
-            Next::Write(_) => device.write(session.block()),
-            Next::Flush => device.flush(),
-            Next::Say(count) => device.say(session.answer_bytes(), count),
-            Next::Done => return,
+    // Makes the row of a call, and has the session take it.
+    fn ask(&mut self, call: Call) {
+        let mut row = [0; ROW];
+        let Some(end) = write_call(&mut row, call) else {
+            unreachable!()
+        };
+        self.session.call(&row[..end]);
+        self.perform();
+    }
+
+    // All calls of a phase.
+    fn play(&mut self, phase: Phase, size: Size) {
+        for i in 0..phase.calls(size) {
+            self.ask(phase.call(size, i));
         }
     }
-}
 
-// Makes the row of a call, and has the session take it.
-fn ask(session: &mut Session, device: &mut Device, call: Call)
-    requires { Ready session.old }
-    ensures { Ready session.new }
-{
-    let mut row = [0; ROW];
-    let Some(end) = write_call(&mut row, call) else {
-        unreachable()
-    };
-    session.call(&row[..end]);
-    perform(session, device);
-}
+    // A phase, with what it came to and how long it took.
+    fn measure_phase(&mut self, rt: &HostRuntime, phase: Phase, size: Size) -> anyhow::Result<()> {
+        let before = self.device.refusals;
+        let start = Instant::now(rt)?;
+        self.play(phase, size);
+        let time = start.elapsed(rt)?;
+        let title = phase.title();
+        let count = phase.calls(size);
+        let refused = self.device.refusals.wrapping_sub(before);
+        println!(rt; "{title}: {count} calls, {refused} refused")?;
+        say_time(rt, title, count, time)
+    }
 
-// All calls of a phase.
-fn play(session: &mut Session, device: &mut Device, phase: Phase, limits: Limits)
-    requires ready { Ready session.old }
-    requires enough { 4 ≤ limits.accounts }
-    ensures { Ready session.new }
-{
-    for i in 0..phase.calls(limits) {
-        ask(session, device, phase.call(limits, i));
+    // All phases, one after another.
+    fn measure_all(&mut self, rt: &HostRuntime, size: Size) -> anyhow::Result<()> {
+        for phase in &PHASES {
+            self.measure_phase(rt, *phase, size)?;
+        }
+        let writes = self.device.writes;
+        let flushes = self.device.flushes;
+        let answers = self.device.answers;
+        let checksum = self.device.checksum;
+        let block = self.device.block_checksum();
+        println!(rt; "{writes} writes, {flushes} flushes, {answers} answers")?;
+        println!(rt; "checksum of the answers {checksum:016x}, of the last block {block:016x}")?;
+        Ok(())
     }
 }
 
@@ -87,71 +96,19 @@ fn say_time(rt: &HostRuntime, title: &str, count: u32, time: Duration) -> anyhow
     Ok(())
 }
 
-// A phase, with what it came to and how long it took.
-fn measure_phase(
-    rt: &HostRuntime,
-    session: &mut Session,
-    device: &mut Device,
-    phase: Phase,
-    limits: Limits,
-) -> anyhow::Result<()>
-    requires ready { Ready session.old }
-    requires enough { 4 ≤ limits.accounts }
-    ensures { Ready session.new }
-{
-    let before = device.refusals;
+// Opens the book of an empty device in lent memory, and measures.
+fn measure(rt: &HostRuntime, size: Size, memory: &mut Memory) -> anyhow::Result<()> {
     let start = Instant::now(rt)?;
-    play(session, device, phase, limits);
-    let time = start.elapsed(rt)?;
-    let title = phase.title();
-    let count = phase.calls(limits);
-    let refused = device.refusals.wrapping_sub(before);
-    println!(rt; "{title}: {count} calls, {refused} refused")?;
-    say_time(rt, title, count, time)
-}
-
-// All phases, one after another.
-fn measure_all(rt: &HostRuntime, session: &mut Session, limits: Limits) -> anyhow::Result<()>
-    requires ready { Ready session.old }
-    requires enough { 4 ≤ limits.accounts }
-{
-    let mut device = Device::new();
-    for phase in &PHASES {
-        measure_phase(rt, session, &mut device, *phase, limits)?;
-    }
-    let writes = device.writes;
-    let flushes = device.flushes;
-    let answers = device.answers;
-    let checksum = device.checksum;
-    let block = device.block_checksum();
-    println!(rt; "{writes} writes, {flushes} flushes, {answers} answers")?;
-    println!(rt; "checksum of the answers {checksum:016x}, of the last block {block:016x}")?;
-    Ok(())
-}
-
-// Opens the book in lent memory, and measures.
-fn measure<'a>(
-    rt: &HostRuntime,
-    limits: Limits,
-    cents: &'a mut [u64],
-    numbers: &'a mut [u32],
-    block: &'a mut [u8],
-    bytes: &'a mut [u8],
-    empty: &[u8],
-) -> anyhow::Result<()>
-    requires { 4 ≤ limits.accounts }
-{
-    let start = Instant::now(rt)?;
-    let Ok(opening) = open(limits, cents, numbers, block, bytes) else {
+    let Ok(opening) = open(size.limits, memory.lend()) else {
         return Err(anyhow!(USAGE));
     };
-    let Some(session) = stand(opening, empty) else {
+    let Some(session) = stand(opening, |_, _| true) else {
         return Err(anyhow!("an empty device was refused"));
     };
     let time = start.elapsed(rt)?;
     say_time(rt, "opening", 1, time)?;
-    let mut session = session;
-    measure_all(rt, &mut session, limits)
+    let device = Device::new();
+    Runner { session, device }.measure_all(rt, size)
 }
 
 // The limits that the command line gives; an account that is opened takes a rate.
@@ -175,25 +132,11 @@ fn limits_given(rt: &HostRuntime) -> anyhow::Result<Limits> {
 }
 
 fn run(rt: &HostRuntime) -> anyhow::Result<()> {
-    let limits = limits_given(rt)?;
-    if limits.accounts < 4 || !limits.are_allowed() {
+    let Some(size) = Size::of(limits_given(rt)?) else {
         return Err(anyhow!(USAGE));
-    }
-    let heap = rt.alloc();
-    let mut cents = vec![in heap; 0u64; limits.cents_needed()]?;
-    let mut numbers = vec![in heap; 0u32; limits.numbers_needed()]?;
-    let mut bytes = vec![in heap; 0u8; most_answer(limits.bookings)]?;
-    let mut block = vec![in heap; 0u8; BLOCK]?;
-    let empty = vec![in heap; 0u8; BLOCK]?;
-    measure(
-        rt,
-        limits,
-        &mut cents,
-        &mut numbers,
-        &mut block,
-        &mut bytes,
-        &empty,
-    )
+    };
+    let mut memory = Memory::new(rt.alloc(), size.limits)?;
+    measure(rt, size, &mut memory)
 }
 
 fn main(rt: HostRuntime) -> anyhow::Result<()> {

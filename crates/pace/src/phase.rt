@@ -6,6 +6,23 @@ ghost use Rattle.std.specs.Prelude.{◌≤◌};
 use columns::limits::Limits;
 use wire::call::Call;
 
+// The limits of a run, with at least two accounts that can be opened.
+#[derive(Clone, Copy)]
+pub struct Size {
+    pub limits: Limits,
+    pub ghost two: { 4 ≤ limits.accounts },
+}
+
+impl Size {
+    // A run with these limits, if they may be given and have two accounts that can be opened.
+    pub fn of(limits: Limits) -> Option<Size> {
+        if limits.accounts < 4 || !limits.are_allowed() {
+            return None;
+        }
+        Some(Size { limits })
+    }
+}
+
 #[derive(Clone, Copy)]
 pub enum Phase {
     Open,
@@ -92,9 +109,8 @@ impl Phase {
     }
 
     // How many calls it has.
-    pub fn calls(self, limits: Limits) -> u32
-        requires { 4 ≤ limits.accounts }
-    {
+    pub fn calls(self, size: Size) -> u32 {
+        let limits = size.limits;
         match self {
             Phase::Open | Phase::Balance => limits.accounts - 2,
             Phase::PayIn => limits.bookings / 4,
@@ -105,10 +121,8 @@ impl Phase {
     }
 
     // Its call number `i`.
-    pub fn call(self, limits: Limits, i: u32) -> Call
-        requires { 4 ≤ limits.accounts }
-    {
-        let opened = limits.accounts as u64 - 2;
+    pub fn call(self, size: Size, i: u32) -> Call {
+        let opened = size.limits.accounts as u64 - 2;
         match self {
             Phase::Open => Call::Open {
                 limit: LIMIT,

@@ -49,23 +49,21 @@ pub through_none : (o : Opening) (image : List ℕ) → Through o o image
 unfolding gather_each
 through_none o image =
     record {
-      still_open = refl;
       limits_stay = refl;
       blocks_stay = refl;
       stage_stays = refl;
       within = λ h. h;
-      stands = λ e at. subst (λ (k : ℕ). At o.session (gather (calls_in 1 (limits o.session.ledger)) (device_of image) k)) (sym e) at;
+      stands = λ e at. subst (λ (k : ℕ). At o.session (gather (calls_in 1 (limits o.session.book.ledger)) (device_of image) k)) (sym e) at;
     }
 
 pub through_more : (o p q : Opening) (image : List ℕ) → Through o p image → p.session.journal.read < p.session.journal.blocks → Advanced p q (device_of image p.session.journal.read) → Through o q image
 unfolding gather_each
 through_more o p q image t there a =
-    let l : Limits = limits o.session.ledger in
+    let l : Limits = limits o.session.book.ledger in
     let k : ℕ = p.session.journal.read in
     let same : rows_for_lem p (device_of image k) ≡ calls_in 1 l (device_of image k) =
-    calls_accepted (limits p.session.ledger) k p.session.journal.count (device_of image k) a.accepted ∙ ap (λ (x : Limits). calls_in 1 x (device_of image k)) t.limits_stay in
+    calls_accepted (limits p.session.book.ledger) k p.session.journal.count (device_of image k) a.accepted ∙ ap (λ (x : Limits). calls_in 1 x (device_of image k)) t.limits_stay in
     record {
-      still_open = a.still_open ∙ sym a.was_open ∙ t.still_open;
       limits_stay = a.limits_stay ∙ t.limits_stay;
       blocks_stay = a.blocks_stay ∙ t.blocks_stay;
       stage_stays = a.stage_stays ∙ t.stage_stays;
@@ -94,19 +92,18 @@ taken_block l g k (suc n) h t =
 
 -- a block of a device that reads as calls is not refused
 pub acceptable : (o p : Opening) (image : List ℕ) (ts : List Call) → HoldsCalls o image ts → Through o p image → p.session.journal.read < p.session.journal.blocks →
-    Acceptable p (gather (calls_in 1 (limits o.session.ledger)) (device_of image) p.session.journal.read) (device_of image p.session.journal.read)
+    Acceptable p (gather (calls_in 1 (limits o.session.book.ledger)) (device_of image) p.session.journal.read) (device_of image p.session.journal.read)
 acceptable o p image ts h t there =
-    let l : Limits = limits o.session.ledger in
+    let l : Limits = limits o.session.book.ledger in
     let d : Device = device_of image in
     let k : ℕ = p.session.journal.read in
     let at : At p.session (gather (calls_in 1 l) d k) = t.stands h.new.unread h.new.fresh in
-    let few : k < room l = let b = t.blocks_stay ∙ h.new.ready.joined.blocks_are in omega arith in
-    let f : FirstAccepted l d ts = first_accepted l h.allows d ts h.reads in
+    let few : k < room l = let b = t.blocks_stay ∙ o.session.joined.blocks_are in omega arith in
+    let f : FirstAccepted l d ts = first_accepted l o.session.book.allows d ts h.reads in
     let n : p.session.journal.count ≡ how_many (λ i. calls_in 1 l (d i)) k = at.stands.count ∙ how_many_is (λ i. calls_in 1 l (d i)) k in
-    let same : limits p.session.ledger ≡ l = t.limits_stay in
+    let same : limits p.session.book.ledger ≡ l = t.limits_stay in
     let ok : accepts 1 l 0 k p.session.journal.count (d k) ≡ true = ap (λ (m : ℕ). accepts 1 l 0 k m (d k)) n ∙ f.accepted k few (device_whole image k) in
     record {
-      open_yet = t.still_open ∙ h.new.open_yet;
       at_base = at;
       there = there;
       accepted = ap (λ (x : Limits). accepts 1 x 0 k p.session.journal.count (d k)) same ∙ ok;
@@ -117,17 +114,17 @@ acceptable o p image ts h t there =
     }
 
 -- when all blocks were read the session is the program started on the device
-pub started : (o p : Opening) (image : List ℕ) → NewOpening o (limits o.session.ledger) → Through o p image → p.session.journal.blocks ≤ p.session.journal.read →
-    memory p.session ≡ (first_program (limits o.session.ledger)).start (device_of image)
+pub started : (o p : Opening) (image : List ℕ) → NewOpening o (limits o.session.book.ledger) → Through o p image → p.session.journal.blocks ≤ p.session.journal.read →
+    memory p.session ≡ (first_program (limits o.session.book.ledger)).start (device_of image)
 started o p image n t all =
-    let l : Limits = limits o.session.ledger in
-    let b : p.session.journal.blocks ≡ room l = t.blocks_stay ∙ n.ready.joined.blocks_are in
+    let l : Limits = limits o.session.book.ledger in
+    let b : p.session.journal.blocks ≡ room l = t.blocks_stay ∙ o.session.joined.blocks_are in
     let u = n.unread in
     let w = t.within (omega arith) in
     let r : p.session.journal.read ≡ room l = omega arith in
     let at : At p.session (gather (calls_in 1 l) (device_of image) (room l)) =
     subst (λ (k : ℕ). At p.session (gather (calls_in 1 l) (device_of image) k)) r (t.stands n.unread n.fresh) in
-    let x : bank p.session.ledger ≡ ran_by (book l) new_bank (gather (calls_in 1 l) (device_of image) (room l)) =
+    let x : bank p.session.book.ledger ≡ ran_by (book l) new_bank (gather (calls_in 1 l) (device_of image) (room l)) =
     at.bank_is ∙ ap (λ (k : Limits). ran_by (book k) new_bank (gather (calls_in 1 l) (device_of image) (room l))) t.limits_stay in
     let y = at.stands.count in
     let z = at.stands.tail in

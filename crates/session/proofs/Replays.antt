@@ -17,19 +17,17 @@ use Rattle.ledger.specs.Meaning.{bank, limits}
 use Rattle.desk.specs.Desk.{ServedFirst}
 use Rattle.journal.specs.Tail.{Stands, Appended}
 use Rattle.journal.specs.Recovery.{TakenAfter}
-use Rattle.journal.proofs.Accepts.{row_in}
+use Rattle.journal.proofs.Rows.{row_in}
 use Rattle.session.specs.declared.Session.{Session}
-use Rattle.session.specs.Session.{At, Ready}
+use Rattle.session.specs.Session.{At}
 use Rattle.session.specs.Replay.{Grown, row_call}
-use Rattle.session.proofs.Steps.{after_bank, taken_ready}
+use Rattle.session.proofs.Steps.{after_bank}
 
 -- one call more
-pub grown_one : (s t : Session) (c : Call) (a : Told) → Ready s → ServedFirst s.ledger t.ledger c a true → Appended s.journal t.journal c →
-    ((b : List Call) → Stands s.journal b → Stands t.journal (b ++ (c ∷ []))) → t.bytes.now ≡ s.bytes.now → t.length ≡ s.length → t.answer ≡ s.answer → t.stage ≡ s.stage →
-    Grown s t (c ∷ [])
-grown_one s t c a r v j n e f g h =
+pub grown_one : (s t : Session) (c : Call) (a : Told) → ServedFirst s.book.ledger t.book.ledger c a true → Appended s.journal t.journal c →
+    ((b : List Call) → Stands s.journal b → Stands t.journal (b ++ (c ∷ []))) → t.stage ≡ s.stage → Grown s t (c ∷ [])
+grown_one s t c a v j n h =
     record {
-      ready = taken_ready s t c a v j r (ap length e) ((let p = r.spoken in cc));
       limits_stay = v.limits_stay;
       read_stays = j.alike.read;
       blocks_stay = j.alike.blocks;
@@ -38,17 +36,16 @@ grown_one s t c a r v j n e f g h =
       stands = λ base at.
           record {
             bank_is =
-                after_bank s t c a v j ∙ ap (λ (b : Bank). after (limits s.ledger) b c) at.bank_is ∙ sym (ran_snoc (book (limits s.ledger)) new_bank base c)
+                after_bank s.book.ledger t.book.ledger c a v ∙ ap (λ (b : Bank). after (limits s.book.ledger) b c) at.bank_is ∙ sym (ran_snoc (book (limits s.book.ledger)) new_bank base c)
                 ∙ ap (λ (l : Limits). ran_by (book l) new_bank (base ++ (c ∷ []))) (sym v.limits_stay);
             stands = n base at.stands;
           };
     }
 
 -- none, and some after others
-pub grown_none : (s : Session) → Ready s → Grown s s []
-grown_none s r =
+pub grown_none : (s : Session) → Grown s s []
+grown_none s =
     record {
-      ready = r;
       limits_stay = refl;
       read_stays = refl;
       blocks_stay = refl;
@@ -60,7 +57,6 @@ grown_none s r =
 pub grown_then : (s t u : Session) (cs ds : List Call) → Grown s t cs → Grown t u ds → Grown s u (cs ++ ds)
 grown_then s t u cs ds g h =
     record {
-      ready = h.ready;
       limits_stay = h.limits_stay ∙ g.limits_stay;
       read_stays = h.read_stays ∙ g.read_stays;
       blocks_stay = h.blocks_stay ∙ g.blocks_stay;
@@ -109,13 +105,13 @@ plain_of true p q h = h
 plain_of false p q h = absurd (let z : ◌≡◌ {A = ℕ} 0 1 = cc in omega arith)
 
 -- so a row is taken again
-pub row_taken : (s t : Session) (bs : List ℕ) (i n : ℕ) (base : List Call) → i < n → n ≤ 24 → Grown s t (rows_in call_row 32 i bs) → At s base → TakenAfter (limits s.ledger) base (rows_in call_row 32 n bs) →
-    (plain (row_call bs i) && changes (limits t.ledger) (bank t.ledger) (row_call bs i)) ≡ true
+pub row_taken : (s t : Session) (bs : List ℕ) (i n : ℕ) (base : List Call) → i < n → n ≤ 24 → Grown s t (rows_in call_row 32 i bs) → At s base → TakenAfter (limits s.book.ledger) base (rows_in call_row 32 n bs) →
+    (plain (row_call bs i) && changes (limits t.book.ledger) (bank t.book.ledger) (row_call bs i)) ≡ true
 unfolding takes rows_in
 row_taken s t bs i n base h m g at k =
-    let l : Limits = limits s.ledger in
+    let l : Limits = limits s.book.ledger in
     let c : Call = row_call bs i in
-    let b : bank t.ledger ≡ ran_by (book l) new_bank (base ++ rows_in call_row 32 i bs) =
+    let b : bank t.book.ledger ≡ ran_by (book l) new_bank (base ++ rows_in call_row 32 i bs) =
     (g.stands base at).bank_is ∙ ap (λ (x : Limits). ran_by (book x) new_bank (base ++ rows_in call_row 32 i bs)) g.limits_stay in
     let xs : List Call = rows_at call_row n (drop 32 bs) in
     let q : takes (book l) first_call (changes l) (base ++ take i xs) (get_or xs i day_ends) ≡ true = taken_at l base xs i day_ends (omega (arith, rows_many call_row n (drop 32 bs))) k in
@@ -124,4 +120,4 @@ row_taken s t bs i n base h m g at k =
     let z : (first_call c && changes l (ran_by (book l) new_bank (base ++ rows_in call_row 32 i bs)) c) ≡ true =
     subst (λ (y : List Call). (first_call c && changes l (ran_by (book l) new_bank (base ++ y)) c) ≡ true) f
     (subst (λ (y : Call). (first_call y && changes l (ran_by (book l) new_bank (base ++ take i xs)) y) ≡ true) e q) in
-    ap (λ (x : Limits). plain c && changes x (bank t.ledger) c) g.limits_stay ∙ ap (λ (x : Bank). plain c && changes l x c) b ∙ plain_of (readable c) (plain c) _ z
+    ap (λ (x : Limits). plain c && changes x (bank t.book.ledger) c) g.limits_stay ∙ ap (λ (x : Bank). plain c && changes l x c) b ∙ plain_of (readable c) (plain c) _ z

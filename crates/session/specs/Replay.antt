@@ -7,7 +7,7 @@ use Rattle.wire.specs.JournalRow.{kind_at}
 use Rattle.journal.specs.Recovery.{TakenAfter}
 use Rattle.ledger.specs.Meaning.{limits}
 use Rattle.session.specs.declared.Session.{Session}
-use Rattle.session.specs.Session.{At, Ready}
+use Rattle.session.specs.Session.{At}
 
 -- the call of row i of a block
 abbrev pub row_call : List ℕ → ℕ → Call
@@ -23,8 +23,7 @@ TakenAgain l base cs = TakenAfter l base cs
 
 -- t is s with some calls taken again
 pub record Grown (s t : Session) (cs : List Call) : Type 0 where
-  pub ready : Ready t
-  pub limits_stay : limits t.ledger ≡ limits s.ledger
+  pub limits_stay : limits t.book.ledger ≡ limits s.book.ledger
   pub read_stays : t.journal.read ≡ s.journal.read
   pub blocks_stay : t.journal.blocks ≡ s.journal.blocks
   pub count_is : t.journal.count ≡ s.journal.count + length cs

@@ -1,5 +1,5 @@
 -- A session as the first stage's program: what it holds in memory is the program's state, and what it still has to do are the program's acts. Assumes nothing: these are definitions.
-use Rattle.std.specs.Prelude.{◌≡◌, ℕ, ◌+◌, ◌≤◌, List, [], ◌∷◌, length, take}
+use Rattle.std.specs.Prelude.{◌≡◌, ℕ, List, [], ◌∷◌, length, take}
 use Rattle.device.specs.Device.{write, flush, say}
 use Rattle.device.specs.Book.{ran_by}
 use Rattle.device.specs.Resident.{Memory}
@@ -7,14 +7,11 @@ use Rattle.bank.specs.Book.{Bank}
 use Rattle.bank.specs.Calls.{Call, new_bank}
 use Rattle.bank.specs.Calls.{Answer as Reply}
 use Rattle.bank.specs.Device.{Act}
-use Rattle.bank.specs.Promise.{room}
 use Rattle.model.specs.Core.{book}
-use Rattle.model.specs.First.{size}
 use Rattle.wire.specs.Answered.{answered, written_answer}
 use Rattle.wire.specs.declared.answer.Answer.{Answer as Code}
 use Rattle.ledger.specs.Meaning.{bank, limits}
-use Rattle.desk.specs.Desk.{Kept}
-use Rattle.journal.specs.Tail.{bounds, tail, Sound, Stands}
+use Rattle.journal.specs.Tail.{tail, Stands}
 use Rattle.session.specs.declared.Session.{Session}
 use Rattle.session.specs.declared.Stage.{Stage}
 use Rattle.session.specs.declared.Stage.TheVariants.{Idle, Writing, Flushing, Saying}
@@ -23,22 +20,22 @@ use Rattle.session.specs.declared.Next.TheVariants.{Write, Flush, Say, Done}
 
 -- the program's state
 abbrev pub memory : Session → Memory Call Bank
-memory s = record { bank = bank s.ledger; count = s.journal.count; tail = tail s.journal }
+memory s = record { bank = bank s.book.ledger; count = s.journal.count; tail = tail s.journal }
 
 -- the answer of the last call
 abbrev pub answer_of_lem : Session → Reply
 answer_of_lem s = answered s.answer []
 
--- what is left to do, at each stage: block k gets the bytes b, and a is answered
-abbrev pub left_of : Stage → ℕ → List ℕ → Reply → List Act
-left_of Idle k b a = []
-left_of Writing k b a = write k b ∷ (flush ∷ (say a ∷ []))
-left_of Flushing k b a = flush ∷ (say a ∷ [])
-left_of Saying k b a = say a ∷ []
+-- what is left to do, at each stage: a block gets the bytes b, and a is answered
+abbrev pub left_of : Stage → List ℕ → Reply → List Act
+left_of Idle b a = []
+left_of (Writing k) b a = write k b ∷ (flush ∷ (say a ∷ []))
+left_of Flushing b a = flush ∷ (say a ∷ [])
+left_of Saying b a = say a ∷ []
 
 -- what a session has left to do
 abbrev pub left : Session → List Act
-left s = left_of s.stage s.place s.journal.block.now (answer_of_lem s)
+left s = left_of s.stage s.journal.block.now (answer_of_lem s)
 
 -- the act that the caller is told to do
 abbrev pub told : Next → Session → List Act
@@ -58,45 +55,27 @@ Told Done xs = xs ≡ []
 abbrev pub Said : Next → Session → Type 0
 Said (Write k) s = Unit {0}
 Said Flush s = Unit {0}
-Said (Say n) s = n ≡ s.length
+Said (Say n) s = n ≡ s.said
 Said Done s = Unit {0}
 
 -- the book, the journal and the answer stay
 pub record Same (s t : Session) : Type 0 where
-  pub ledger : t.ledger ≡ s.ledger
+  pub book : t.book ≡ s.book
   pub journal : t.journal ≡ s.journal
   pub bytes : t.bytes.now ≡ s.bytes.now
-  pub length_is : t.length ≡ s.length
+  pub length_is : t.said ≡ s.said
   pub answer : t.answer ≡ s.answer
-  pub place : t.place ≡ s.place
 
 -- an answer is in the lent bytes, to be said; all else stays
 pub record Replied (s t : Session) (a : Code) : Type 0 where
-  pub ledger : t.ledger ≡ s.ledger
+  pub book : t.book ≡ s.book
   pub journal : t.journal ≡ s.journal
-  pub place : t.place ≡ s.place
   pub stage : t.stage ≡ Saying
   pub answer : t.answer ≡ a
   pub roomy : length t.bytes.now ≡ length s.bytes.now
-  pub spoken : take t.length t.bytes.now ≡ written_answer (answered a [])
-
--- the journal is that of the ledger's book in the first stage: format 1, no checkpoint, all blocks
-pub record Joined (s : Session) : Type 0 where
-  pub bounds_are : bounds s.journal ≡ limits s.ledger
-  pub format_is : s.journal.format ≡ 1
-  pub epoch_is : s.journal.epoch ≡ 0
-  pub blocks_are : s.journal.blocks ≡ room (limits s.ledger)
-
--- what always holds: a book that calls brought about, its journal, whose calls each used up an account or a booking, and the bytes of the answer
-pub record Ready (s : Session) : Type 0 where
-  pub kept : Kept s.ledger
-  pub journal : Sound s.journal
-  pub joined : Joined s
-  pub counted : s.journal.count + 2 ≤ size (bank s.ledger)
-  pub roomy : 17 ≤ length s.bytes.now
-  pub spoken : take s.length s.bytes.now ≡ written_answer (answer_of_lem s)
+  pub spoken : take t.said t.bytes.now ≡ written_answer (answered a [])
 
 -- it stands at the end of the journal's calls cs
 pub record At (s : Session) (cs : List Call) : Type 0 where
-  pub bank_is : bank s.ledger ≡ ran_by (book (limits s.ledger)) new_bank cs
+  pub bank_is : bank s.book.ledger ≡ ran_by (book (limits s.book.ledger)) new_bank cs
   pub stands : Stands s.journal cs

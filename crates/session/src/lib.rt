@@ -10,20 +10,21 @@
 // A call that changes the book begins at writing, any other at saying.
 #![tactic(auto)]
 
-ghost use Rattle.std.specs.Prelude.{◌≡◌, ◌≤◌, [], ◌++◌, length};
-ghost use Rattle.wire.specs.Answered.{Follows};
+ghost use Rattle.std.specs.Prelude.{◌≡◌, ◌≤◌, [], ◌++◌, length, take};
+ghost use Rattle.wire.specs.Answered.{Follows, answered, written_answer};
+ghost use Rattle.session.specs.Joined.{Joined};
 ghost use Rattle.model.specs.First.{first_program};
 ghost use Rattle.wire.specs.Format.{read_call_lem};
 ghost use Rattle.ledger.specs.Meaning.{limits};
-ghost use Rattle.session.specs.Session.{memory, left, told, Told, Ready, Replied, Said, Same};
 
-use desk::take;
+use desk::{Book, Outcome};
 use journal::journal::Journal;
 use ledger::Ledger;
 use reply::write_plain;
 use wire::answer::Answer;
 use wire::call::read_call;
 
+pub mod lent;
 pub mod opening;
 mod replay;
 mod reply;
@@ -32,7 +33,8 @@ mod reply;
 #[derive(Clone, Copy)]
 pub enum Stage {
     Idle,
-    Writing,
+    // the lent block is to be written to a block of the device
+    Writing(u64),
     Flushing,
     Saying,
 }
@@ -49,18 +51,23 @@ pub enum Next {
 // A book that is open: all its memory is lent.
 #[derive(Drop)]
 pub struct Session<'a> {
-    ledger: Ledger<'a>,
+    book: Book<'a>,
     journal: Journal<'a>,
     // the bytes of the last answer, and how many they are
     bytes: &'a mut [u8],
-    length: usize,
+    said: usize,
     answer: Answer,
-    // where the lent block is to be written
-    place: u64,
     stage: Stage,
+    // the journal is that of the book
+    ghost joined: { Joined book.ledger journal },
+    // the answer stands in the lent bytes
+    ghost roomy: { 17 ≤ length bytes.now },
+    ghost spoken: { take said bytes.now ≡ written_answer (answered answer []) },
 }
 
 impl<'a> Session<'a> {
+    ghost use Rattle.session.specs.Session.{memory, left, told, Told, Replied, Said, Same};
+
     // Puts an answer, which no bookings follow, into the lent bytes, to be said.
     fn reply(&mut self, answer: Answer)
         requires room { 17 ≤ length self.old.bytes.now }
@@ -69,17 +76,15 @@ impl<'a> Session<'a> {
     {
         let length = write_plain(self.bytes, answer);
         self.answer = answer;
-        self.length = length;
+        self.said = length;
         self.stage = Stage::Saying;
     }
 
     // Takes the call that a row of bytes is, or turns it away; `next_act` then hands out what is to be done.
     pub fn call(&mut self, row: &[u8])
-        requires { Ready self.old }
-        ensures state { memory self.new ≡ (first_program (limits self.old.ledger)).next (memory self.old) (read_call_lem row.now) }
-        ensures acts { left self.new ≡ (first_program (limits self.old.ledger)).does (memory self.old) (read_call_lem row.now) }
-        ensures ready { Ready self.new }
-        ensures limits { limits self.new.ledger ≡ limits self.old.ledger }
+        ensures state { memory self.new ≡ (first_program (limits self.old.book.ledger)).next (memory self.old) (read_call_lem row.now) }
+        ensures acts { left self.new ≡ (first_program (limits self.old.book.ledger)).does (memory self.old) (read_call_lem row.now) }
+        ensures limits { limits self.new.book.ledger ≡ limits self.old.book.ledger }
     {
         let call = match read_call(row) {
             Ok(call) => call,
@@ -91,11 +96,12 @@ impl<'a> Session<'a> {
                 return;
             }
         };
-        let outcome = take(&mut self.ledger, call);
-        self.reply(outcome.answer);
-        if outcome.changed {
-            self.place = self.journal.append(call);
-            self.stage = Stage::Writing;
+        match self.book.take(call) {
+            Outcome::Changed(answer) => {
+                self.reply(answer);
+                self.stage = Stage::Writing(self.journal.append(call));
+            }
+            Outcome::Unchanged(answer) => self.reply(answer),
         }
     }
 
@@ -105,13 +111,12 @@ impl<'a> Session<'a> {
         ensures done { Told result (left self.old) }
         ensures said { Said result self.old }
         ensures same { Same self.old self.new }
-        ensures ready { Ready self.old → Ready self.new }
     {
         match self.stage {
             Stage::Idle => Next::Done,
-            Stage::Writing => {
+            Stage::Writing(k) => {
                 self.stage = Stage::Flushing;
-                Next::Write(self.place)
+                Next::Write(k)
             }
             Stage::Flushing => {
                 self.stage = Stage::Saying;
@@ -119,16 +124,16 @@ impl<'a> Session<'a> {
             }
             Stage::Saying => {
                 self.stage = Stage::Idle;
-                Next::Say(self.length)
+                Next::Say(self.said)
             }
         }
     }
 
     // The book, to be looked at.
     pub fn book(&self) -> &Ledger<'a>
-        ensures { result.now ≡ self.now.ledger }
+        ensures { result.now ≡ self.now.book.ledger }
     {
-        &self.ledger
+        self.book.ledger()
     }
 
     // The bytes that a write is of.

@@ -1,21 +1,21 @@
 // Opening a session in lent memory: it asks for the blocks of the device one after another, and takes the calls of its journal again.
-ghost use Rattle.std.specs.Prelude.{◌≡◌, ◌≤◌, true, false, List, length, Some, None, nat_lt};
+ghost use Rattle.std.specs.Prelude.{◌≡◌, ◌≤◌, true, length, Some, None, nat_lt};
 ghost use Rattle.device.specs.Device.{pick};
-ghost use Rattle.bank.specs.Calls.{Call as Told-call};
 ghost use Rattle.bank.specs.Promise.{allowed, room};
 ghost use Rattle.ledger.specs.Opened.{New};
-ghost use Rattle.desk.specs.Desk.{Kept};
 ghost use Rattle.columns.specs.Sizes.{limits_of};
-ghost use Rattle.session.specs.Opening.{NewOpening, Opened, Opens, Advanced, Acceptable, Through, HoldsCalls, Stood, ReadyIf, Recovered};
+ghost use Rattle.session.specs.Opening.{NewOpening, outer_misfit, Opened, TookBlock, TookImage, Stood, Recovered};
 ghost use Rattle.ledger.specs.Meaning.{limits};
 
+use crate::lent::Lent;
 use crate::reply::write_plain;
 use crate::{Session, Stage};
 use blocks::{BLOCK, block_at, blocks_in};
 use columns::limits::Limits;
+use desk::Book;
+use journal::header::Label;
 use journal::journal::Journal;
-use ledger::Ledger;
-use ledger::opening::Refused as Unopened;
+use ledger::opening::{Misfit, Refused as Unopened};
 use wire::answer::{Answer, most_answer};
 
 // The format of the first stage's journal blocks, and the number of its only checkpoint.
@@ -23,26 +23,17 @@ const FORMAT: u16 = 1;
 
 const EPOCH: u32 = 0;
 
-// What does not fit, by its place in refusal 3: limits that may not be given, or lent memory that is too small.
-const LIMITS: u64 = 2;
-
-const MEMORY: u64 = 0;
-
-// An opening that was refused: the place of what does not fit, and the lent memory as it was.
+// An opening that was refused: what does not fit, and the lent memory as it was.
 #[derive(Drop)]
 pub struct Refused<'a> {
-    pub place: u64,
-    pub cents: &'a mut [u64],
-    pub numbers: &'a mut [u32],
-    pub block: &'a mut [u8],
-    pub bytes: &'a mut [u8],
+    pub misfit: Misfit,
+    pub lent: Lent<'a>,
 }
 
-// A session that does not stand yet: blocks of its device are still to be read, or one was refused.
+// A session that does not stand yet: blocks of its device are still to be read.
 #[derive(Drop)]
 pub struct Opening<'a> {
     session: Session<'a>,
-    refused: bool,
 }
 
 // How many blocks a device must have for these limits.
@@ -54,13 +45,12 @@ pub fn blocks_needed(limits: Limits) -> u64
 
 // A new session, of which no block was read yet.
 fn begin<'a>(
-    ledger: Ledger<'a>,
+    book: Book<'a>,
     limits: Limits,
     block: &'a mut [u8],
     bytes: &'a mut [u8],
 ) -> Opening<'a>
-    requires kept { Kept ledger }
-    requires new { New ledger (limits_of limits) }
+    requires new { New book.ledger (limits_of limits) }
     requires lawful { allowed (limits_of limits) ≡ true }
     requires block { length block.old ≡ 512 }
     requires bytes { 17 ≤ length bytes.old }
@@ -68,55 +58,52 @@ fn begin<'a>(
 {
     let blocks = blocks_needed(limits) as u32;
     let answer = Answer::Number(0);
-    let length = write_plain(bytes, answer);
-    let journal = Journal::new(block, FORMAT, limits, EPOCH, blocks);
+    let said = write_plain(bytes, answer);
+    let label = Label {
+        format: FORMAT,
+        limits,
+        epoch: EPOCH,
+    };
+    let journal = Journal::new(block, label, blocks);
     let session = Session {
-        ledger,
+        book,
         journal,
         bytes,
-        length,
+        said,
         answer,
-        place: 0,
         stage: Stage::Idle,
     };
-    Opening {
-        session,
-        refused: false,
-    }
+    Opening { session }
 }
 
-// Begins to open the book of a device in lent memory: cells of 8 and of 4 bytes, a block, and the bytes of answers.
-pub fn open<'a>(
-    limits: Limits,
-    cents: &'a mut [u64],
-    numbers: &'a mut [u32],
-    block: &'a mut [u8],
-    bytes: &'a mut [u8],
-) -> Result<Opening<'a>, Refused<'a>>
-    ensures { Opened (limits_of limits) cents.old numbers.old block.old bytes.old result }
+// What does not fit, before the book's own cells are looked at.
+fn what_misfits(limits: Limits, lent: &Lent) -> Option<Misfit>
+    ensures { result ≡ outer_misfit (limits_of limits) (length lent.now.block.now) (length lent.now.bytes.now) }
 {
     if !limits.are_allowed() {
-        let place = LIMITS;
-        return Err(Refused {
-            place,
-            cents,
-            numbers,
-            block,
-            bytes,
-        });
+        return Some(Misfit::Bounds);
     }
-    if block.len() != BLOCK || bytes.len() < most_answer(limits.bookings) {
-        let place = MEMORY;
-        return Err(Refused {
-            place,
-            cents,
-            numbers,
-            block,
-            bytes,
-        });
+    if lent.block.len() != BLOCK || lent.bytes.len() < most_answer(limits.bookings) {
+        return Some(Misfit::Memory);
     }
-    let ledger = match desk::opening::open(limits, cents, numbers) {
-        Ok(ledger) => ledger,
+    None
+}
+
+// Begins to open the book of a device in lent memory.
+pub fn open<'a>(limits: Limits, lent: Lent<'a>) -> Result<Opening<'a>, Refused<'a>>
+    ensures { Opened (limits_of limits) lent.entry result }
+{
+    if let Some(misfit) = what_misfits(limits, &lent) {
+        return Err(Refused { misfit, lent });
+    }
+    let Lent {
+        cents,
+        numbers,
+        block,
+        bytes,
+    } = lent;
+    match Book::open(limits, cents, numbers) {
+        Ok(book) => Ok(begin(book, limits, block, bytes)),
         Err(
             Unopened {
                 misfit,
@@ -124,17 +111,15 @@ pub fn open<'a>(
                 numbers,
             },
         ) => {
-            let place = misfit.place();
-            return Err(Refused {
-                place,
+            let lent = Lent {
                 cents,
                 numbers,
                 block,
                 bytes,
-            });
+            };
+            Err(Refused { misfit, lent })
         }
-    };
-    Ok(begin(ledger, limits, block, bytes))
+    }
 }
 
 impl<'a> Opening<'a> {
@@ -145,55 +130,35 @@ impl<'a> Opening<'a> {
         self.session.journal.next_block()
     }
 
-    // Takes the block that was asked for: its calls are taken again. Refuses one that cannot be of this book.
-    pub fn take_block(&mut self, bytes: &[u8]) -> bool
-        requires { Opens self.old }
-        ensures opens { Opens self.new }
-        ensures advanced { result ≡ true → Advanced self.old self.new bytes.now }
-        ensures found { (base : List Told-call) → Acceptable self.old base bytes.now → result ≡ true }
+    // Takes the block that was asked for: its calls are taken again. None where it cannot be of this book.
+    pub fn take_block(self, bytes: &[u8]) -> Option<Opening<'a>>
+        ensures { TookBlock self.entry bytes.now result }
     {
-        if self.refused {
-            return false;
-        }
-        let Some(rows) = self.session.journal.take_block(bytes) else {
-            self.refused = true;
-            return false;
-        };
-        if !self.session.replay_block(bytes, rows) {
-            self.refused = true;
-            return false;
-        }
-        true
+        let Opening { mut session } = self;
+        let rows = session.journal.take_block(bytes)?;
+        session.replay_block(bytes, rows)?;
+        Some(Opening { session })
     }
 
-    // Takes all blocks of a device in lent bytes; says whether none was refused.
-    pub fn take_image(&mut self, image: &[u8]) -> bool
-        requires { Opens self.old }
-        ensures opens { Opens self.new }
-        ensures through { result ≡ true → Through self.old self.new image.now }
-        ensures all { result ≡ true → self.new.session.journal.blocks ≤ self.new.session.journal.read }
-        ensures found { (ts : List Told-call) → HoldsCalls self.old image.now ts → result ≡ true }
+    // Takes all blocks of a device in lent bytes. None where one is missing, or cannot be of this book.
+    pub fn take_image(self, image: &[u8]) -> Option<Opening<'a>>
+        ensures { TookImage self.entry image.now result }
     {
-        while let Some(k) = self.next_block() {
+        let mut opening = self;
+        while let Some(k) = opening.next_block() {
             if k >= blocks_in(image) {
-                return false;
+                return None;
             }
-            if !self.take_block(block_at(image, k as usize)) {
-                return false;
-            }
+            opening = opening.take_block(block_at(image, k as usize))?;
         }
-        true
+        Some(opening)
     }
 
-    // The session, where all blocks were read and none was refused.
+    // The session, where all blocks were read.
     pub fn stand(self) -> Option<Session<'a>>
-        ensures stood { Stood self.entry result }
-        ensures ready { Opens self.entry → ReadyIf result }
+        ensures { Stood self.entry result }
     {
-        let Opening { session, refused } = self;
-        if refused {
-            return None;
-        }
+        let Opening { session } = self;
         if session.journal.next_block().is_some() {
             return None;
         }
@@ -203,12 +168,8 @@ impl<'a> Opening<'a> {
 
 // The session of a device in lent bytes, where it holds a book with these limits, or none yet.
 pub fn recover<'a>(opening: Opening<'a>, image: &[u8]) -> Option<Session<'a>>
-    requires { NewOpening opening (limits opening.session.ledger) }
+    requires { NewOpening opening (limits opening.session.book.ledger) }
     ensures { Recovered opening.entry image.now result }
 {
-    let mut opening = opening;
-    if !opening.take_image(image) {
-        return None;
-    }
-    opening.stand()
+    opening.take_image(image)?.stand()
 }

@@ -7,20 +7,19 @@
 #![tactic(auto)]
 
 ghost use Rattle.ledger.specs.Meaning.{bank};
-ghost use Rattle.ledger.specs.Whole.{Whole};
 ghost use Rattle.std.specs.Prelude.{◌<◌, length};
 
 use anyhow::anyhow;
 use ledger::Ledger;
-use session::opening::open;
+use ledger::opening::Misfit;
 use std::env;
-use store::{BLOCK, BYTES, CENTS, LIMITS, NUMBERS, Store, read_all};
+use store::memory::Memory;
+use store::{LIMITS, Store, open_book};
 use wire::booking::{Booking, mark_number};
 
 // Prints an account and its rates.
 fn show_account(rt: &HostRuntime, book: &Ledger, account: u32) -> anyhow::Result<()>
-    requires whole { Whole book.now }
-    requires there { account < length (bank book.now).accounts }
+    requires { account < length (bank book.now).accounts }
 {
     let limit = book.limit(account);
     print!(rt; "account {account} {limit}")?;
@@ -38,7 +37,7 @@ fn show_account(rt: &HostRuntime, book: &Ledger, account: u32) -> anyhow::Result
 
 // Prints a booking.
 fn show_booking(rt: &HostRuntime, number: usize, b: Booking) -> anyhow::Result<()> {
-    let kind = b.kind.number();
+    let kind = u32::from(b.kind);
     let back = mark_number(b.back);
     let (on, value, from, to, amount) = (b.on, b.value, b.from, b.to, b.amount);
     println!(rt; "booking {number} {on} {value} {from} {to} {amount} {kind} {back}")?;
@@ -46,9 +45,7 @@ fn show_booking(rt: &HostRuntime, number: usize, b: Booking) -> anyhow::Result<(
 }
 
 // Prints all accounts, then all bookings.
-fn show_book(rt: &HostRuntime, book: &Ledger) -> anyhow::Result<()>
-    requires { Whole book.now }
-{
+fn show_book(rt: &HostRuntime, book: &Ledger) -> anyhow::Result<()> {
     for number in 0..book.account_count() {
         if let Some(account) = book.account(number as u64) {
             show_account(rt, book, account)?;
@@ -65,21 +62,12 @@ fn show_book(rt: &HostRuntime, book: &Ledger) -> anyhow::Result<()>
 // Opens the book of a device, and shows it.
 fn show(rt: &HostRuntime, device: &str) -> anyhow::Result<()> {
     let mut store = Store::look(rt, device)?;
-    let mut cents = [0; CENTS];
-    let mut numbers = [0; NUMBERS];
-    let mut block = [0; BLOCK];
-    let mut bytes = [0; BYTES];
-    let mut opening = match open(LIMITS, &mut cents, &mut numbers, &mut block, &mut bytes) {
-        Ok(opening) => opening,
-        Err(_) => return Err(anyhow!("the book cannot be opened")),
-    };
-    if !read_all(&mut store, &mut opening)? {
-        return Err(anyhow!("the file holds no book with these limits"));
+    let mut memory = Memory::new(rt.alloc(), LIMITS)?;
+    match open_book(&mut store, &mut memory) {
+        Ok(session) => show_book(rt, session.book()),
+        Err(Misfit::Device) => Err(anyhow!("the file holds no book with these limits")),
+        Err(_) => Err(anyhow!("the book cannot be opened")),
     }
-    let Some(session) = opening.stand() else {
-        return Err(anyhow!("the file holds no book with these limits"));
-    };
-    show_book(rt, session.book())
 }
 
 fn run(rt: &HostRuntime) -> anyhow::Result<()> {

@@ -1,106 +1,107 @@
-// A device in lent bytes that can lose power: an image, and apart from it the writes since the last flush.
+// A device in lent bytes that can lose power: its image, and apart from it the writes since the last flush.
 #![tactic(auto)]
 
-ghost use Rattle.std.specs.Prelude.{◌≡◌, ℕ, ◌+◌, ◌*◌, ◌/◌, ◌<◌, ◌≤◌, min, List, length, take, slice_index};
-ghost use Rattle.device.specs.Device.{Device, pick, put, write as written, flush as flushed};
-ghost use Rattle.device.specs.Plan.{put_all};
+ghost use Rattle.std.specs.Prelude.{◌≡◌, ℕ, ◌+◌, ◌*◌, ◌/◌, ◌<◌, ◌≤◌, ◌==◌, min, List, length, slice_index};
+ghost use Rattle.std.specs.List.{position_or_len};
+ghost use Rattle.device.specs.Device.{Device, pick, write as written, flush as flushed};
 ghost use Rattle.bank.specs.Device.{Act, LeftBy};
 ghost use Rattle.bank.specs.Calls.{Answer};
-ghost use Rattle.blocks.specs.Blocks.{block, device_of};
+ghost use Rattle.blocks.specs.Blocks.{device_of};
 ghost use Rattle.sim.specs.Held.{at_rest, done, dones};
-ghost use Rattle.sim.specs.Cut.{times, turn, cut_by};
-ghost use Rattle.sim.specs.Sims.{places_in, kept, holds, room, takes, left_of, Sound};
+ghost use Rattle.sim.specs.Cut.{times, different, turn, left_of, cut_by};
 
-use blocks::{BLOCK, block_at, blocks_in, set_block};
+use blocks::{BLOCK, blocks_in, set_block};
 
-// The writes that are not safe yet, oldest first, in lent memory: where each goes, and its bytes.
+// The device: its image, which is safe, and the writes since the last flush, oldest first: where each goes, and its bytes.
 #[derive(Drop)]
-pub struct Unflushed<'a> {
+pub struct Disk<'i, 'a> {
+    // It has a lifetime of its own: so its lender learns what it holds at the end.
+    image: &'i mut [u8],
     places: &'a mut [u64],
     blocks: &'a mut [u8],
     count: usize,
+    ghost numbered: { count ≤ length places.now },
+    ghost whole: { 512 * count ≤ length blocks.now },
+    ghost inside: { (i : ℕ) → i < count → 512 * slice_index places.now i + 512 ≤ length image.now },
 }
 
-// The number at a place of a row; one that lacks counts as 0.
-fn number_in(row: &[u64], i: usize) -> u64
-    ensures { result ≡ slice_index row.now i }
+// How often block k stands in a list of blocks.
+fn times_written(places: &[u64], k: u64) -> usize
+    ensures { result ≡ times k places.now }
 {
-    if i < row.len() { row[i] } else { 0 }
+    places.iter().filter(|place| **place == k).count()
 }
 
-impl<'a> Unflushed<'a> {
-    // No writes. There is room for as many as there are places and whole blocks.
-    pub fn new(places: &'a mut [u64], blocks: &'a mut [u8]) -> Unflushed<'a>
-        ensures sound { (image : List ℕ) → Sound image result }
-        ensures held { (image : List ℕ) → holds image result ≡ at_rest (device_of image) }
+// How many different blocks stand in a list of blocks: each is counted where it stands last.
+fn different_blocks(places: &[u64]) -> usize
+    ensures { result ≡ different places.now }
+{
+    let mut seen = 0;
+    for (i, place) in places.iter().enumerate() {
+        if times_written(&places[i + 1..], *place) == 0 {
+            seen += 1;
+        }
+    }
+    seen
+}
+
+// Where block k stands first in a list of blocks, or its end where it does not stand there.
+fn first_written(places: &[u64], k: u64) -> usize
+    ensures { result ≡ position_or_len (λ j. j == k) places.now }
+{
+    places.iter().take_while(|place| **place != k).count()
+}
+
+// How many other blocks were written before block k was.
+fn turn_of(places: &[u64], k: u64) -> usize
+    ensures { result ≡ turn k places.now }
+{
+    different_blocks(&places[..first_written(places, k)])
+}
+
+// Is the i-th write left where the row says how many there are of each block?
+fn is_left(places: &[u64], row: &[u64], i: usize) -> bool
+    requires { i < length places.now }
+    ensures { result ≡ left_of row.now places.now i }
+{
+    let k = places[i];
+    let earlier = times_written(&places[..i], k) as u64;
+    let number = row.get(turn_of(places, k)).copied().unwrap_or(0);
+    earlier < number
+}
+
+impl<'i, 'a> Disk<'i, 'a> {
+    ghost use Rattle.sim.specs.Sims.{holds, room, takes, SameImage};
+
+    // A device of which everything is safe. There is room for as many writes as there are places and whole blocks.
+    pub fn new(image: &'i mut [u8], places: &'a mut [u64], blocks: &'a mut [u8]) -> Disk<'i, 'a>
+        ensures same_image { result.image.ghost_name ≡ image.entry.ghost_name }
+        ensures image { result.image.now ≡ image.old }
+        ensures held { holds result ≡ at_rest (device_of image.old) }
         ensures room { room result ≡ min (length places.old) (length blocks.old / 512) }
         ensures count { result.count ≡ 0 }
     {
-        Unflushed {
+        Disk {
+            image,
             places,
             blocks,
             count: 0,
         }
     }
-}
 
-impl Unflushed<'_> {
-    // Where the i-th write goes.
-    fn place(&self, i: usize) -> u64
-        requires { i < length self.now.places.now }
-        ensures { result ≡ slice_index self.now.places.now i }
+    // What is safe.
+    pub fn image(&self) -> &[u8]
+        ensures { result.now ≡ self.now.image.now }
     {
-        self.places[i]
-    }
-
-    // How many of the first n writes go to block k.
-    fn times_written(&self, n: usize, k: u64) -> usize
-        requires { n ≤ length self.now.places.now }
-        ensures { result ≡ times k (take n self.now.places.now) }
-    {
-        let mut seen = 0;
-        for i in 0..n {
-            let place = self.place(i);
-            if place == k {
-                seen += 1;
-            }
-        }
-        seen
-    }
-
-    // How many other blocks were written before block k was.
-    fn turn_of(&self, k: u64) -> usize
-        requires { self.now.count ≤ length self.now.places.now }
-        ensures { result ≡ turn k (places_in self.now) }
-    {
-        let mut others = 0;
-        for i in 0..self.count {
-            let place = self.place(i);
-            if place == k {
-                return others;
-            }
-            if self.times_written(i, place) == 0 {
-                others += 1;
-            }
-        }
-        others
-    }
-
-    // The bytes of the i-th write.
-    fn bytes(&self, i: usize) -> &[u8]
-        requires { 512 * i + 512 ≤ length self.now.blocks.now }
-        ensures bytes { result.now ≡ block i self.now.blocks.now }
-        ensures whole { length result.now ≡ 512 }
-    {
-        block_at(self.blocks, i)
+        self.image
     }
 
     // Keeps a write. It is refused where it is no whole block, where there is no such block, or where there is no room.
-    pub fn write(&mut self, image: &[u8], k: u64, block: &[u8]) -> bool
-        requires { Sound image.now self.old }
-        ensures taken { result ≡ takes image.now self.old k block.now }
-        ensures held { holds image.now self.new ≡ pick result (done {A = Answer} (holds image.now self.old) (written k block.now)) (holds image.now self.old) }
-        ensures sound { Sound image.now self.new }
+    pub fn write(&mut self, k: u64, block: &[u8]) -> bool
+        ensures taken { result ≡ takes self.old k block.now }
+        ensures held { holds self.new ≡ pick result (done {A = Answer} (holds self.old) (written k block.now)) (holds self.old) }
+        ensures same_image { SameImage self.old self.new }
+        ensures image { self.new.image.now ≡ self.old.image.now }
         ensures room { room self.new ≡ room self.old }
         ensures count { self.new.count ≡ self.old.count + pick result 1 0 }
     {
@@ -108,7 +109,7 @@ impl Unflushed<'_> {
         if at >= self.places.len() || at >= self.blocks.len() / BLOCK {
             return false;
         }
-        if k >= blocks_in(image) || block.len() != BLOCK {
+        if k >= blocks_in(self.image()) || block.len() != BLOCK {
             return false;
         }
         set_block(self.blocks, at, block);
@@ -117,74 +118,37 @@ impl Unflushed<'_> {
         true
     }
 
-    // Puts the i-th write into the image.
-    fn put_one(&self, image: &mut [u8], i: usize)
-        requires sound { Sound image.old self.now }
-        requires there { i < self.now.count }
-        ensures { device_of image.new ≡ put (device_of image.old) (slice_index self.now.places.now i) (block i self.now.blocks.now) }
-    {
-        let k = self.place(i) as usize;
-        let block = self.bytes(i);
-        set_block(image, k, block);
-    }
-
-    // Puts all writes into the image.
-    fn apply(&self, image: &mut [u8])
-        requires { Sound image.old self.now }
-        ensures { device_of image.new ≡ put_all (device_of image.old) (kept self.now) }
-    {
-        for i in 0..self.count {
-            self.put_one(image, i);
-        }
-    }
-
     // Makes all writes safe.
-    pub fn flush(&mut self, image: &mut [u8])
-        requires { Sound image.old self.old }
-        ensures held { holds image.new self.new ≡ done {A = Answer} (holds image.old self.old) flushed }
-        ensures sound { Sound image.new self.new }
+    pub fn flush(&mut self)
+        ensures held { holds self.new ≡ done {A = Answer} (holds self.old) flushed }
+        ensures same_image { SameImage self.old self.new }
         ensures room { room self.new ≡ room self.old }
         ensures count { self.new.count ≡ 0 }
     {
-        self.apply(image);
-        self.count = 0;
-    }
-
-    // Is the i-th write left where the row says how many there are of each block?
-    fn is_left(&self, row: &[u64], i: usize) -> bool
-        requires there { i < self.now.count }
-        requires numbered { self.now.count ≤ length self.now.places.now }
-        ensures { result ≡ left_of row.now self.now i }
-    {
-        let k = self.place(i);
-        let turn = self.turn_of(k);
-        let earlier = self.times_written(i, k) as u64;
-        earlier < number_in(row, turn)
-    }
-
-    // Puts those writes into the image that the row leaves.
-    fn leave(&self, image: &mut [u8], row: &[u64])
-        requires { Sound image.old self.now }
-        ensures { (k : ℕ) → device_of image.new k ≡ cut_by row.now (holds image.old self.now) k }
-    {
-        for i in 0..self.count {
-            if self.is_left(row, i) {
-                self.put_one(image, i);
-            }
+        let places = &self.places[..self.count];
+        for (place, block) in places.iter().zip(self.blocks.chunks_exact(BLOCK)) {
+            set_block(self.image, *place as usize, block);
         }
+        self.count = 0;
     }
 
     // Power is lost. The row has a number for each block that was written since the last flush, in the order of their first write: 0 leaves it as it was, n as the
     // n-th write to it made it, or the last where there are fewer. A number that lacks counts as 0.
-    pub fn cut(&mut self, image: &mut [u8], row: &[u64])
-        requires { Sound image.old self.old }
-        ensures row { (k : ℕ) → device_of image.new k ≡ cut_by row.now (holds image.old self.old) k }
-        ensures left { (d : Device) (xs : List Act) → holds image.old self.old ≡ dones (at_rest d) xs → LeftBy d xs (device_of image.new) }
-        ensures held { holds image.new self.new ≡ at_rest (device_of image.new) }
-        ensures sound { Sound image.new self.new }
+    pub fn cut(&mut self, row: &[u64])
+        ensures row { (k : ℕ) → device_of self.new.image.now k ≡ cut_by row.now (holds self.old) k }
+        ensures left { (d : Device) (xs : List Act) → holds self.old ≡ dones (at_rest d) xs → LeftBy d xs (device_of self.new.image.now) }
+        ensures held { holds self.new ≡ at_rest (device_of self.new.image.now) }
+        ensures same_image { SameImage self.old self.new }
         ensures room { room self.new ≡ room self.old }
+        ensures count { self.new.count ≡ 0 }
     {
-        self.leave(image, row);
+        let places = &self.places[..self.count];
+        let writes = places.iter().zip(self.blocks.chunks_exact(BLOCK));
+        for (i, (place, block)) in writes.enumerate() {
+            if is_left(places, row, i) {
+                set_block(self.image, *place as usize, block);
+            }
+        }
         self.count = 0;
     }
 }

@@ -1,28 +1,26 @@
-// A device in a file, and the book that the programs keep on it.
+// A device in a file, the book that the programs keep on it, and what they read and print.
 #![tactic(auto)]
 
-ghost use Rattle.session.specs.Opening.{Opens};
-
 use columns::limits::Limits;
-use session::opening::{Opening, blocks_needed};
+use ledger::opening::Misfit;
+use memory::Memory;
+use session::Session;
+use session::opening::{Opening, open};
 use std::fs::{File, OpenOptions};
 use std::io;
 use std::io::{Read, Seek, SeekFrom, Write};
 
-// What a book is opened with, and the memory that this asks for: cells of 8 and of 4 bytes, a block, and the bytes of an answer.
+pub mod lines;
+pub mod memory;
+
+// What a book is opened with.
 pub const LIMITS: Limits = Limits {
     accounts: 64,
     rates: 256,
     bookings: 512,
 };
 
-pub const CENTS: usize = 896;
-
-pub const NUMBERS: usize = 5_056;
-
 pub const BLOCK: usize = 512;
-
-pub const BYTES: usize = 28_681;
 
 // A file of blocks that is open.
 #[derive(Drop)]
@@ -51,40 +49,54 @@ impl Store {
         Ok(Store { file })
     }
 
-    // Reads block k.
-    pub fn read(&mut self, k: u64, block: &mut [u8]) -> io::Result<()> {
+    // Goes to where block k begins.
+    fn find(&mut self, k: u64) -> io::Result<()> {
         let _ = self
             .file
             .seek(SeekFrom::Start(k.saturating_mul(BLOCK as u64)))?;
+        Ok(())
+    }
+
+    // Reads block k.
+    pub fn read(&mut self, k: u64, block: &mut [u8]) -> io::Result<()> {
+        self.find(k)?;
         self.file.read_exact(block)
     }
 
     // Writes block k, and has the disk keep it.
     pub fn write(&mut self, k: u64, block: &[u8]) -> io::Result<()> {
-        let _ = self
-            .file
-            .seek(SeekFrom::Start(k.saturating_mul(BLOCK as u64)))?;
+        self.find(k)?;
         self.file.write_all(block)?;
         self.file.sync_data()
     }
 }
 
-// Reads all blocks that the opening asks for; says whether none was refused.
-pub fn read_all(store: &mut Store, opening: &mut Opening) -> anyhow::Result<bool>
-    requires { Opens opening.old }
-    ensures { Opens opening.new }
+// The session of an opening, whose blocks are read one after another. None where one cannot be read, or cannot be of this book.
+pub fn stand<'a, F: FnMut(u64, &mut [u8]) -> bool>(
+    opening: Opening<'a>,
+    mut read: F,
+) -> Option<Session<'a>>
+    requires { F.IsAlwaysCallable read }
 {
+    let mut opening = opening;
     let mut block = [0; BLOCK];
-    for _ in 0..blocks_needed(LIMITS) {
-        let Some(k) = opening.next_block() else {
-            return Ok(true);
-        };
-        if store.read(k, &mut block).is_err() {
-            return Ok(false);
+    while let Some(k) = opening.next_block() {
+        if !read(k, &mut block) {
+            return None;
         }
-        if !opening.take_block(&block) {
-            return Ok(false);
-        }
+        opening = opening.take_block(&block)?;
     }
-    Ok(true)
+    opening.stand()
+}
+
+// Opens the book that a file of blocks holds.
+pub fn open_book<'a>(store: &mut Store, memory: &'a mut Memory) -> Result<Session<'a>, Misfit> {
+    let opening = match open(LIMITS, memory.lend()) {
+        Ok(opening) => opening,
+        Err(refused) => return Err(refused.misfit),
+    };
+    let Some(session) = stand(opening, |k, block| store.read(k, block).is_ok()) else {
+        return Err(Misfit::Device);
+    };
+    Ok(session)
 }

@@ -1,63 +1,63 @@
--- Laws of lines by forms.
-use Rattle.std.proofs.Common.{◌≡◌, ℕ, ◌+◌, true, false, List, [], ◌∷◌, ◌++◌, Some, None, Option, sym, refl, ap, ◌∙◌, append_assoc, arith}
-use Rattle.std.specs.Str.{bytes_eq}
+-- Laws of the words of a line, read one behind another: the numbers so far, and those that what is left gives.
+use Rattle.std.proofs.Common.{◌≡◌, ℕ, ◌≤◌, Bool, true, false, leb, List, [], ◌∷◌, ◌++◌, length, Some, None, Option, sym, refl, ap, ◌∙◌, append_assoc, le-leb}
 use Rattle.std.proofs.lemmas.List.{append-nil}
 use Rattle.bank.specs.Book.{pick}
-use Rattle.text.specs.declared.numbers.Numbers.{Numbers}
-use Rattle.text.specs.Words.{number_in}
-use Rattle.text.specs.Lines.{Matched, behind, followed, listed, marks, matched, numbers_by_lem}
+use Rattle.text.specs.Words.{word_number}
+use Rattle.text.specs.Lines.{Matched, all_numbers, behind, few_numbers, followed, form_numbers, matched}
 
 -- one number more in front of others
-pub behind_more : (ns : List ℕ) (n : ℕ) (o : Option (List ℕ)) → behind ns (followed (Some n) o) ≡ behind (ns ++ (n ∷ [])) o
+behind_more : (ns : List ℕ) (n : ℕ) (o : Option (List ℕ)) → behind ns (followed (Some n) o) ≡ behind (ns ++ (n ∷ [])) o
 behind_more ns n None = refl
 behind_more ns n (Some ms) = ap Some (sym (append_assoc ns (n ∷ []) ms))
 
--- a mark, the same word and another one
-module _ (n : Numbers) (f w : List ℕ) where
-  pub at_no_number : marks f ≡ true → None ≡ number_in w → Matched n f w None
-  at_no_number h e o = ap (λ t. pick t (followed (number_in w) o) (pick (bytes_eq f w) o None)) h ∙ ap (λ x. followed x o) (sym e)
+-- the words of a line of numbers
+module _ (all : Option (List ℕ)) (ns : List ℕ) (ws : List (List ℕ)) (inv : all ≡ behind ns (all_numbers ws)) where
+  module _ (w : List ℕ) (vs : List (List ℕ)) (p : ws ≡ w ∷ vs) where
+    pub number_more : (n : ℕ) → Some n ≡ word_number w → all ≡ behind (ns ++ (n ∷ [])) (all_numbers vs)
+    unfolding all_numbers
+    number_more n e = inv ∙ rw p (rw (← e) (behind_more ns n (all_numbers vs)))
 
-  pub at_number : (m : Numbers) (x : ℕ) → marks f ≡ true → Some x ≡ number_in w → m.count ≡ n.count + 1 → listed m ≡ listed n ++ (x ∷ []) → Matched n f w (Some m)
-  at_number m x h e k l = (
-    λ o. ap (λ t. behind (listed n) (pick t (followed (number_in w) o) (pick (bytes_eq f w) o None))) h
-        ∙ ap (λ y. behind (listed n) (followed y o)) (sym e)
-        ∙ behind_more (listed n) x o
-        ∙ ap (λ y. behind y o) (sym l),
-    omega arith,
-  )
+    pub number_none : None ≡ word_number w → None ≡ all
+    unfolding all_numbers
+    number_none e = sym (inv ∙ rw p (rw (← e) refl))
 
-  pub at_same : marks f ≡ false → bytes_eq f w ≡ true → Matched n f w (Some n)
-  at_same h s = (λ o. ap (λ t. behind (listed n) (pick t (followed (number_in w) o) (pick (bytes_eq f w) o None))) h ∙ ap (λ t. behind (listed n) (pick t o None)) s, omega arith)
+  pub number_all : ws ≡ [] → Some ns ≡ all
+  unfolding all_numbers
+  number_all p = sym (inv ∙ rw p (ap Some (append-nil ns)))
 
-  pub at_other : marks f ≡ false → bytes_eq f w ≡ false → Matched n f w None
-  at_other h s o = ap (λ t. pick t (followed (number_in w) o) (pick (bytes_eq f w) o None)) h ∙ ap (λ t. pick t o None) s
+-- few enough of them, and none either way
+module _ (ws : List (List ℕ)) where
+  pub few : length ws ≤ 9 → few_numbers ws ≡ all_numbers ws
+  few h = ap (λ t. pick t (all_numbers ws) None) (le-leb (length ws) 9 h)
 
-pub followed_is : (t : ℕ) (o : Option (List ℕ)) → followed (Some t) o ≡ behind (t ∷ []) o
-followed_is t None = refl
-followed_is t (Some ms) = refl
+  pub neither : None ≡ all_numbers ws → None ≡ few_numbers ws
+  neither e = either (leb (length ws) 9) ∙ ap (λ o. pick (leb (length ws) 9) o None) e
+    where
+      either : (t : Bool) → None ≡ pick {A = Option (List ℕ)} t None None
+      either true = refl
+      either false = refl
 
--- what is left of a form and of a line gives what all gives: the numbers so far, and those that follow
-module _ (all : Option (List ℕ)) (n : Numbers) (fs ws : List (List ℕ)) (inv : all ≡ behind (listed n) (numbers_by_lem fs ws)) where
+-- and those of a line by a form
+module _ (all : Option (List ℕ)) (ns : List ℕ) (fs ws : List (List ℕ)) (inv : all ≡ behind ns (form_numbers fs ws)) where
   pub line_short : (f : List ℕ) (gs : List (List ℕ)) → fs ≡ f ∷ gs → ws ≡ [] → None ≡ all
-  unfolding numbers_by_lem
-  line_short f gs p q = sym (inv ∙ ap (λ x. behind (listed n) (numbers_by_lem x ws)) p ∙ ap (λ x. behind (listed n) (numbers_by_lem (f ∷ gs) x)) q)
+  unfolding form_numbers
+  line_short f gs p q = sym (inv ∙ rw (p, q) refl)
 
   pub line_long : (w : List ℕ) (vs : List (List ℕ)) → fs ≡ [] → ws ≡ w ∷ vs → None ≡ all
-  unfolding numbers_by_lem
-  line_long w vs p q = sym (inv ∙ ap (λ x. behind (listed n) (numbers_by_lem x ws)) p ∙ ap (λ x. behind (listed n) (numbers_by_lem [] x)) q)
+  unfolding form_numbers
+  line_long w vs p q = sym (inv ∙ rw (p, q) refl)
 
-  pub all_read : fs ≡ [] → ws ≡ [] → Some (listed n) ≡ all
-  unfolding numbers_by_lem
-  all_read p q =
-      sym (inv ∙ ap (λ x. behind (listed n) (numbers_by_lem x ws)) p ∙ ap (λ x. behind (listed n) (numbers_by_lem [] x)) q ∙ ap Some (append-nil (listed n)))
+  pub all_read : fs ≡ [] → ws ≡ [] → Some ns ≡ all
+  unfolding form_numbers
+  all_read p q = sym (inv ∙ rw (p, q) (ap Some (append-nil ns)))
 
   module _ (f w : List ℕ) (gs vs : List (List ℕ)) (p : fs ≡ f ∷ gs) (q : ws ≡ w ∷ vs) where
-    here : numbers_by_lem fs ws ≡ matched f w (numbers_by_lem gs vs)
-    unfolding numbers_by_lem
-    here = ap (λ x. numbers_by_lem x ws) p ∙ ap (λ x. numbers_by_lem (f ∷ gs) x) q
+    here : form_numbers fs ws ≡ matched f w (form_numbers gs vs)
+    unfolding form_numbers
+    here = rw (p, q) refl
 
-    pub unmatched : Matched n f w None → None ≡ all
-    unmatched h = sym (inv ∙ ap (behind (listed n)) (here ∙ h (numbers_by_lem gs vs)))
+    pub unmatched : (ms : List ℕ) → Matched ns f w ms None → None ≡ all
+    unmatched ms h = sym (inv ∙ ap (behind ns) (here ∙ h (form_numbers gs vs)))
 
-    pub more_matched : (m : Numbers) → Matched n f w (Some m) → all ≡ behind (listed m) (numbers_by_lem gs vs)
-    more_matched m h = inv ∙ ap (behind (listed n)) here ∙ h.0 (numbers_by_lem gs vs)
+    pub more_matched : (ms : List ℕ) → Matched ns f w ms (Some tt) → all ≡ behind ms (form_numbers gs vs)
+    more_matched ms h = inv ∙ ap (behind ns) here ∙ h (form_numbers gs vs)

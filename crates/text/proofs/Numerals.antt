@@ -1,47 +1,53 @@
 -- Laws of lines of the numbers of a row.
-use Rattle.std.proofs.Common.{◌≡◌, ℕ, zero, suc, ◌+◌, ◌-◌, ◌*◌, ◌/◌, ◌<◌, true, List, [], ◌∷◌, ◌++◌, map, length, get_or, drop, decimal, sym, refl, ap, ◌∙◌, arith}
-use Rattle.std.proofs.lemmas.List.{append-nil, drop-drop, map_push}
+use Rattle.std.proofs.Common.{◌≡◌, ℕ, zero, suc, ◌+◌, ◌*◌, ◌/◌, ◌<◌, true, List, [], ◌∷◌, ◌++◌, length, decimal, sym, refl, ap, ◌∙◌, append_assoc, arith, length-append}
+use Rattle.std.proofs.lemmas.List.{append-nil, drop_at}
 use Rattle.std.proofs.lemmas.Bool.{and_from, and_parts}
 use Rattle.bank.specs.Promise.{carries}
 use Rattle.device.specs.Rows.{bytes_of, fits_in, number_of, numbers, row}
 use Rattle.device.proofs.Rows.{row_back, row_length}
 use Rattle.wire.specs.Bytes.{eights}
 use Rattle.wire.proofs.Numbers.{width_eights}
-use Rattle.text.specs.Words.{spelled, words_on}
-use Rattle.text.specs.Lines.{Examples, ToldNumbers, all_carried, all_numbers, by_forms, number_line, numbers_by_lem, row_numbers}
-use Rattle.text.proofs.Spelled.{spelled_more}
+use Rattle.text.specs.Words.{words_on}
+use Rattle.text.specs.Lines.{Examples, ToldNumbers, all_carried, all_numbers, by_forms, number_line, form_numbers, row_numbers}
 
--- eight bytes more
-numbers_push : (k : ℕ) (bs : List ℕ) → numbers (eights (suc k)) bs ≡ numbers (eights k) bs ++ (number_of 8 (drop (8 * k) bs) ∷ [])
+-- the numbers of each eight bytes
+abbrev pub each_eight : List ℕ → List ℕ
+each_eight bs = numbers (eights (length bs / 8)) bs
+
+-- a line behind its first number
+abbrev pub line_behind : List ℕ → List ℕ
+line_behind [] = []
+line_behind (n ∷ ns) = 32 ∷ (decimal n ++ line_behind ns)
+
+line_begun : (t : ℕ) (ns : List ℕ) → number_line (t ∷ ns) ≡ decimal t ++ line_behind ns
+line_begun t [] = sym (append-nil (decimal t))
+line_begun t (n ∷ ns) = ap (λ s. decimal t ++ (32 ∷ s)) (line_begun n ns)
+
+-- a line that has its first number, one more, and all
+pub line_of : (row bs rest line : List ℕ) (t : ℕ) → row ≡ t ∷ bs → rest ≡ bs → line ≡ decimal t → number_line (row_numbers row) ≡ line ++ line_behind (each_eight rest)
+line_of row bs rest line t e r l = rw (e, r, l) (line_begun t (each_eight bs))
+
+number_front : (k : ℕ) (xs ys : List ℕ) → length xs ≡ k → number_of k (xs ++ ys) ≡ number_of k xs
+unfolding number_of
+number_front zero xs ys h = refl
+number_front (suc k) [] ys h = absurd (omega arith)
+number_front (suc k) (x ∷ xs) ys h = ap (λ n. x + 256 * n) (number_front k xs ys (omega arith))
+
+eight_more : (bs xs ys : List ℕ) → bs ≡ xs ++ ys → length xs ≡ 8 → each_eight bs ≡ number_of 8 xs ∷ each_eight ys
 unfolding numbers
-numbers_push zero bs = refl
-numbers_push (suc k) bs =
-    let same : 8 + 8 * k ≡ 8 * suc k = omega arith in
-    ap (λ x. number_of 8 bs ∷ x) (numbers_push k (drop 8 bs) ∙ ap (λ y. numbers (eights k) (drop 8 bs) ++ (number_of 8 y ∷ [])) (drop-drop (8 * k) 8 bs ∙ ap (λ j. drop j bs) same))
+eight_more bs xs ys e h =
+    let one : length (xs ++ ys) / 8 ≡ suc (length ys / 8) = simp length-append (omega (arith, h)) in
+    rw (e, one, number_front 8 xs ys h, drop_at xs ys 8 h) refl
 
-pub line_none : (t : ℕ) (bs : List ℕ) → number_line (t ∷ numbers (eights 0) bs) ≡ decimal t
+pub line_more : (all line after bs xs ys : List ℕ) (n : ℕ) → all ≡ line ++ line_behind (each_eight bs) → bs ≡ xs ++ ys → length xs ≡ 8 → n ≡ number_of 8 xs → after ≡ line ++ (32 ∷ decimal n) →
+    all ≡ after ++ line_behind (each_eight ys)
+line_more all line after bs xs ys n w e h is a =
+    w ∙ ap (λ ns. line ++ line_behind ns) (eight_more bs xs ys e h ∙ ap (λ k. k ∷ each_eight ys) (sym is))
+    ∙ sym (append_assoc line (32 ∷ decimal n) (line_behind (each_eight ys))) ∙ ap (λ l. l ++ line_behind (each_eight ys)) (sym a)
+
+pub line_ended : (all line bs : List ℕ) → all ≡ line ++ line_behind (each_eight bs) → length bs < 8 → line ≡ all
 unfolding numbers
-line_none t bs = refl
-
--- one number more at the end of a line
-pub line_more : (t k i n : ℕ) (row : List ℕ) → k ≡ i + 1 → n ≡ number_of 8 (drop (1 + 8 * i) row) →
-    number_line (t ∷ numbers (eights i) (drop 1 row)) ++ (32 ∷ decimal n) ≡ number_line (t ∷ numbers (eights k) (drop 1 row))
-line_more t k i n row e is =
-    let bs : List ℕ = drop 1 row in
-    let ns : List ℕ = numbers (eights i) bs in
-    let next : suc i ≡ k = omega arith in
-    sym (spelled_more (decimal t) (map decimal ns) (decimal n))
-    ∙ ap (λ ws. spelled (decimal t ∷ ws)) (sym (map_push decimal ns n))
-    ∙ ap (λ m. number_line (t ∷ (ns ++ (m ∷ [])))) (is ∙ ap (number_of 8) (sym (drop-drop (8 * i) 1 row)))
-    ∙ ap (λ ms. number_line (t ∷ ms)) (sym (numbers_push i bs))
-    ∙ ap (λ j. number_line (t ∷ numbers (eights j) bs)) next
-
--- all numbers of a row
-pub line_all : (row : List ℕ) (i : ℕ) → 0 < length row → i ≡ (length row - 1) / 8 → number_line (get_or row 0 0 ∷ numbers (eights i) (drop 1 row)) ≡ number_line (row_numbers row)
-line_all [] i h e = absurd (omega arith)
-line_all (t ∷ bs) i h e =
-    let behind : length {A = ℕ} (t ∷ bs) - 1 ≡ length bs = omega arith in
-    ap (λ k. number_line (t ∷ numbers (eights k) bs)) (e ∙ ap (λ n. n / 8) behind)
+line_ended all line bs w h = let none : length bs / 8 ≡ 0 = omega arith in sym (w ∙ rw none (append-nil line))
 
 -- numbers that eight bytes can carry, as a row and back
 carried : (ns : List ℕ) → all_carried ns ≡ true → fits_in (eights (length ns)) ns ≡ true
@@ -58,5 +64,5 @@ told_back t ns h =
     ∙ ap (λ x. t ∷ x) (row_back ks ns [] (carried ns h))
 
 pub examples : Examples
-unfolding words_on numbers_by_lem by_forms all_numbers row bytes_of
+unfolding words_on form_numbers by_forms all_numbers row bytes_of
 examples = (refl, refl, refl, refl, refl, refl, refl, refl, refl)

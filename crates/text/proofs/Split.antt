@@ -1,81 +1,78 @@
--- Laws of the words of a line.
-use Rattle.std.proofs.Common.{◌≡◌, ℕ, zero, suc, ◌+◌, ◌-◌, ◌<◌, ◌≤◌, true, false, eqb, List, [], ◌∷◌, ◌++◌, length, get_or, take, drop, sym, refl, ap, ◌∙◌, add-zero, arith, eqb-true}
-use borrow.Author.Tests.{eqb-false}
-use Rattle.std.proofs.lemmas.List.{at_drop_more, at_drop_all, get_or-drop, length-drop, length-take, nil_from_length, take_more}
-use Rattle.bank.proofs.Limited.{never}
+-- Laws of the first word of a line.
+use Rattle.std.proofs.Common.{◌≡◌, ℕ, suc, ◌+◌, ◌<◌, ◌≤◌, Bool, ltb, true, false, not, List, [], ◌∷◌, ◌++◌, length, get_or, take, drop, sym, refl, ap, ◌∙◌, append_assoc, arith, add-zero, length-drop, cond, Some, None}
+use borrow.Author.Tests.{not-true}
+use Rattle.std.specs.Prelude.{position}
+use Rattle.std.specs.List.{position_or_len}
+use Rattle.std.specs.Option.{unwrap_or}
+use Rattle.std.proofs.lemmas.List.{append-nil, drop_all, get_or-drop}
+use Rattle.std.proofs.lemmas.List.Sums.{passes_at_first, prefix_len-le-length}
 use Rattle.text.specs.Words.{blank, ended, words, words_on}
 
--- a blank in front, and a byte of a word
-skip : (b : ℕ) (bs : List ℕ) → blank b ≡ true → words (b ∷ bs) ≡ words bs
+-- how many blanks a line begins with, and how many bytes that are none
+abbrev blanks : List ℕ → ℕ
+blanks line = position_or_len (λ b. not (blank b)) line
+
+abbrev letters : List ℕ → ℕ
+letters line = position_or_len blank line
+
+after : (k : ℕ) → suc k ≡ 1 + k
+after k = omega arith
+
+-- blanks in front are passed over
+passed : (line : List ℕ) → words line ≡ words (drop (blanks line) line)
 unfolding words_on
-skip b bs h = rw h refl
+passed [] = refl
+passed (b ∷ line) = at (blank b) refl (passed line)
+  where
+    at : (t : Bool) → blank b ≡ t → words line ≡ words (drop (blanks line) line) → words (b ∷ line) ≡ words (drop (blanks (b ∷ line)) (b ∷ line))
+    at true e more = rw e (more ∙ ap (λ k. words (drop k (b ∷ line))) (after (blanks line)))
+    at false e more = rw (e, e) refl
 
-grow : (w : List ℕ) (b : ℕ) (bs : List ℕ) → blank b ≡ false → words_on w (b ∷ bs) ≡ words_on (w ++ (b ∷ [])) bs
+-- the word that has begun ends at the first blank, or with the line
+begun : (w line : List ℕ) → words_on w line ≡ ended (w ++ take (letters line) line) (words (drop (letters line) line))
 unfolding words_on
-grow w b bs h = rw h refl
+begun w [] = rw (append-nil w) refl
+begun w (b ∷ line) = at (blank b) refl (begun (w ++ (b ∷ [])) line)
+  where
+    at : (t : Bool) → blank b ≡ t → words_on (w ++ (b ∷ [])) line ≡ ended ((w ++ (b ∷ [])) ++ take (letters line) line) (words (drop (letters line) line)) →
+        words_on w (b ∷ line) ≡ ended (w ++ take (letters (b ∷ line)) (b ∷ line)) (words (drop (letters (b ∷ line)) (b ∷ line)))
+    at true e more = rw (e, e, append-nil w) refl
+    at false e more = rw e (more ∙ ap (λ v. ended v (words (drop (letters line) line))) (append_assoc w (b ∷ []) (take (letters line) line))
+        ∙ ap (λ k. ended (w ++ take k (b ∷ line)) (words (drop k (b ∷ line)))) (after (letters line)))
 
-stop : (w : List ℕ) (b : ℕ) (bs : List ℕ) → blank b ≡ true → words_on w (b ∷ bs) ≡ ended w (words (b ∷ bs))
+-- a line that begins with a word
+started : (line : List ℕ) → 0 < length line → blank (get_or line 0 0) ≡ false → words line ≡ take (letters line) line ∷ words (drop (letters line) line)
 unfolding words_on
-stop w b bs h = rw h refl
+started [] some e = absurd (omega arith)
+started (b ∷ line) some e =
+    rw e (begun (b ∷ []) line ∙ ap (λ k. take k (b ∷ line) ∷ words (drop k (b ∷ line))) (after (letters line)))
 
--- one blank more is passed
-pub passed : (line : List ℕ) (i : ℕ) → i < length line → blank (get_or line i 0) ≡ true → words (drop i line) ≡ words (drop (i + 1) line)
-passed line i h t = at_drop_more words line i 0 h ∙ skip (get_or line i 0) (drop (i + 1) line) t
+-- the place that a search says
+module _ (n l : ℕ) (within : n ≤ l) where
+  missed : None ≡ cond (ltb n l) (Some n) None → l ≤ n
+  missed h = grind arith
 
--- one byte more belongs to the word
-pub grown : (line : List ℕ) (i : ℕ) → i < length line → blank (get_or line i 0) ≡ false →
-    words_on (take i line) (drop i line) ≡ words_on (take (i + 1) line) (drop (i + 1) line)
-grown line i h t =
-    at_drop_more (words_on (take i line)) line i 0 h ∙ grow (take i line) (get_or line i 0) (drop (i + 1) line) t
-    ∙ ap (λ w. words_on w (drop (i + 1) line)) (sym (take_more line i 0 h))
+  hit : (i : ℕ) → Some i ≡ cond (ltb n l) (Some n) None → (i ≡ n) × (n < l)
+  hit i h = grind arith
 
--- the word ends at a blank, or with the line
-pub stopped : (line : List ℕ) (i : ℕ) → i < length line → blank (get_or line i 0) ≡ true → words_on (take i line) (drop i line) ≡ ended (take i line) (words (drop i line))
-stopped line i h t =
-    at_drop_more (words_on (take i line)) line i 0 h ∙ stop (take i line) (get_or line i 0) (drop (i + 1) line) t
-    ∙ ap (ended (take i line)) (sym (at_drop_more words line i 0 h))
+  or_end : unwrap_or (cond (ltb n l) (Some n) None) l ≡ n
+  or_end = grind arith
 
-pub last : (line : List ℕ) (i : ℕ) → length line ≤ i → words_on (take i line) (drop i line) ≡ ended (take i line) (words (drop i line))
+-- a line with no other byte than blanks has no words
+pub no_word : (line : List ℕ) → None ≡ position (λ b. not (blank b)) line → words line ≡ []
 unfolding words_on
-last line i h = at_drop_all (words_on (take i line)) line i h ∙ ap (ended (take i line)) (sym (at_drop_all words line i h))
+no_word line h =
+    let long : length line ≤ blanks line = missed (blanks line) (length line) (prefix_len-le-length (λ b. not (not (blank b))) line) h in
+    passed line ∙ ap words (drop_all (blanks line) line long)
 
-pub finished : (line : List ℕ) (i n : ℕ) → n ≤ i → i ≤ n → length line ≡ n → words_on (take i line) (drop i line) ≡ words line →
-    words line ≡ ended (take n line) (words (drop n line))
-finished line i n h l e inv =
-    let same : i ≡ n = omega arith in
-    sym inv ∙ last line i (omega arith) ∙ ap (λ k. ended (take k line) (words (drop k line))) same
-
--- where a line begins with a word, a blank stands further on
-pub further : (line : List ℕ) (i : ℕ) → blank (get_or line 0 0) ≡ false → blank (get_or line i 0) ≡ true → 0 < i
-further line zero p q = absurd (never (sym p ∙ q))
-further line (suc i) p q = omega arith
-
--- behind the blanks of a line: no word, or one
-module _ (line part : List ℕ) (b : ℕ) (is : part ≡ drop b line) (same : words (drop b line) ≡ words line) where
-  pub none_left : eqb (length part) 0 ≡ true → words line ≡ []
-  unfolding words_on
-  none_left h = sym same ∙ ap words (sym is ∙ nil_from_length part (eqb-true (length part) 0 h))
-
-  pub one_left : (w rest : List ℕ) (n : ℕ) → 0 < n → n ≤ length part → words part ≡ ended (take n part) (words (drop n part)) →
-      w ≡ take n part → rest ≡ drop n part → (words line ≡ w ∷ words rest) × (length rest < length line)
-  one_left w rest n some within found p q =
-      let short : length rest < length part = rw q (simp length-drop (omega arith)) in
-      let less : length part ≤ length line = rw is (simp length-drop (omega arith)) in
-      let long : 0 < length w = rw p (simp length-take (omega arith)) in (
-        sym same ∙ ap words (sym is) ∙ found ∙ ap (λ x. ended x (words (drop n part))) (sym p) ∙ ap (λ x. ended w (words x)) (sym q) ∙ begins w (words rest) long,
-        omega arith,
-      )
-    where
-      begins : (x : List ℕ) (ws : List (List ℕ)) → 0 < length x → ended x ws ≡ x ∷ ws
-      begins [] ws h = absurd (omega arith)
-      begins (y ∷ x) ws h = refl
-
--- the byte behind the blanks
-pub first_left : (line part : List ℕ) (b : ℕ) → part ≡ drop b line → eqb (length part) 0 ≡ false → (b < length line → blank (get_or line b 0) ≡ false) →
-    (0 < length part) × (blank (get_or part 0 0) ≡ false)
-first_left line part b e h stops =
-    let some : 0 < length part = omega (arith, eqb-false (length part) 0 h) in
-    let less : length part ≡ length line - b = rw e (simp length-drop) in (
-      some,
-      ap (λ x. blank (get_or x 0 0)) e ∙ ap blank (get_or-drop b line 0 0) ∙ ap (λ k. blank (get_or line k 0)) (add-zero b) ∙ stops (omega arith),
-    )
+-- and else the first is what stands up to the next blank
+pub one_word : (line rest : List ℕ) (i n : ℕ) → Some i ≡ position (λ b. not (blank b)) line → rest ≡ drop i line → n ≡ unwrap_or (position blank rest) (length rest) →
+    words line ≡ take n rest ∷ words (drop n rest)
+one_word line rest i n h is e =
+    let found = hit (blanks line) (length line) (prefix_len-le-length (λ b. not (not (blank b))) line) i h in
+    let some : 0 < length rest = rw is (simp length-drop (omega (arith, found.0, found.1))) in
+    let plain : blank (get_or rest 0 0) ≡ false =
+    ap (λ xs. blank (get_or xs 0 0)) is ∙ ap blank (get_or-drop i line 0 0 ∙ ap (λ k. get_or line k 0) (add-zero i ∙ found.0))
+    ∙ not-true (blank (get_or line (blanks line) 0)) (passes_at_first (λ b. not (blank b)) line 0 found.1) in
+    let same : letters rest ≡ n = sym (e ∙ or_end (letters rest) (length rest) (prefix_len-le-length (λ b. not (blank b)) rest)) in
+    passed line ∙ ap (λ k. words (drop k line)) (sym found.0) ∙ ap words (sym is) ∙ started rest some plain ∙ ap (λ k. take k rest ∷ words (drop k rest)) same

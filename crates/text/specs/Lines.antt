@@ -1,6 +1,8 @@
 -- The rows of bytes that lines stand for, and the lines of calls. Assumes nothing: these are definitions.
-use Rattle.std.specs.Prelude.{◌≡◌, ℕ, suc, ◌/◌, ◌<◌, ◌≤◌, Bool, true, ◌&&◌, List, [], ◌∷◌, ◌++◌, map, length, take, Some, None, codes, decimal, Option, nat_le, nat_lt, slice_index_or}
+use Rattle.std.specs.Prelude.{◌≡◌, ℕ, suc, ◌/◌, ◌<◌, ◌≤◌, Bool, true, ◌&&◌, List, [], ◌∷◌, ◌++◌, map, length, Some, None, codes, decimal, Option, nat_le, nat_lt, slice_index_or}
+use Rattle.std.specs.Option.{option_map, option_or}
 use Rattle.std.specs.Str.{bytes_eq}
+use Rattle.arrayvec.specs.ArrayVec.{ArrayVec}
 use Rattle.bank.specs.Book.{pick}
 use Rattle.bank.specs.Calls.{Call as Meant}
 use Rattle.device.specs.Rows.{numbers, with_bytes}
@@ -9,8 +11,7 @@ use Rattle.bank.specs.Promise.{carries, readable}
 use Rattle.wire.specs.declared.call.Call.{Call}
 use Rattle.wire.specs.Format.{call_fields, call_number, written_call}
 use Rattle.wire.specs.Meaning.{meant}
-use Rattle.text.specs.Words.{number_in, spelled, words}
-use Rattle.text.specs.declared.numbers.Numbers.{Numbers}
+use Rattle.text.specs.Words.{word_number, spelled, words}
 
 -- the forms of calls in words, in the order of the bytes that calls begin with; a mark stands for a number
 abbrev pub call_forms : List (List ℕ)
@@ -28,39 +29,34 @@ followed None o = None
 followed (Some n) None = None
 followed (Some n) (Some ns) = Some (n ∷ ns)
 
--- the first of two that is there
-abbrev pub or_else : Option (List ℕ) → Option (List ℕ) → Option (List ℕ)
-or_else (Some ns) o = Some ns
-or_else None o = o
-
 -- a word by the word of a form: a number where that is a mark, else the same word; and the numbers of the words behind it
 abbrev pub matched : List ℕ → List ℕ → Option (List ℕ) → Option (List ℕ)
-matched f w o = pick (marks f) (followed (number_in w) o) (pick (bytes_eq f w) o None)
+matched f w o = pick (marks f) (followed (word_number w) o) (pick (bytes_eq f w) o None)
 
 -- the numbers of words by a form
-unfoldable pub numbers_by_lem : List (List ℕ) → List (List ℕ) → Option (List ℕ)
-numbers_by_lem [] [] = Some []
-numbers_by_lem [] (w ∷ ws) = None
-numbers_by_lem (f ∷ fs) [] = None
-numbers_by_lem (f ∷ fs) (w ∷ ws) = matched f w (numbers_by_lem fs ws)
+unfoldable pub form_numbers : List (List ℕ) → List (List ℕ) → Option (List ℕ)
+form_numbers [] [] = Some []
+form_numbers [] (w ∷ ws) = None
+form_numbers (f ∷ fs) [] = None
+form_numbers (f ∷ fs) (w ∷ ws) = matched f w (form_numbers fs ws)
 
 -- the numbers of words by the first of some forms that fits, behind the number of that form
 unfoldable pub by_forms : ℕ → List (List ℕ) → List (List ℕ) → Option (List ℕ)
 by_forms t [] ws = None
-by_forms t (f ∷ fs) ws = or_else (followed (Some t) (numbers_by_lem (words f) ws)) (by_forms (suc t) fs ws)
+by_forms t (f ∷ fs) ws = option_or (followed (Some t) (form_numbers (words f) ws)) (by_forms (suc t) fs ws)
 
 -- words that are all numbers
 unfoldable pub all_numbers : List (List ℕ) → Option (List ℕ)
 all_numbers [] = Some []
-all_numbers (w ∷ ws) = followed (number_in w) (all_numbers ws)
+all_numbers (w ∷ ws) = followed (word_number w) (all_numbers ws)
 
 -- at most nine of them
 abbrev pub few_numbers : List (List ℕ) → Option (List ℕ)
 few_numbers ws = pick (nat_le (length ws) 9) (all_numbers ws) None
 
 -- the numbers that words stand for: those of a call in words, or the words themselves
-abbrev pub numbers_in_lem : List (List ℕ) → Option (List ℕ)
-numbers_in_lem ws = or_else (by_forms 0 call_forms ws) (few_numbers ws)
+abbrev pub line_numbers : List (List ℕ) → Option (List ℕ)
+line_numbers ws = option_or (by_forms 0 call_forms ws) (few_numbers ws)
 
 -- the row of numbers: the first as a byte, and eight bytes for each other
 abbrev pub row_of_numbers : Option (List ℕ) → Option (List ℕ)
@@ -70,7 +66,7 @@ row_of_numbers (Some (t ∷ ns)) = pick (nat_lt t 256) (Some (form t ns)) None
 
 -- the row of bytes that a line stands for
 abbrev pub row_in : List ℕ → Option (List ℕ)
-row_in line = row_of_numbers (numbers_in_lem (words line))
+row_in line = row_of_numbers (line_numbers (words line))
 
 -- a form with numbers in the place of its marks
 abbrev pub filled : List (List ℕ) → List ℕ → List (List ℕ)
@@ -115,23 +111,18 @@ Examples =
     × (row_in (codes " 3  258 ") ≡ Some (3 ∷ 2 ∷ 1 ∷ 0 ∷ 0 ∷ 0 ∷ 0 ∷ 0 ∷ 0 ∷ [])) × (row_in (codes "255") ≡ Some (255 ∷ [])) × (row_in (codes "256") ≡ None)
     × (row_in [] ≡ None) × (row_in (codes "take back") ≡ None) × (row_in (codes "take back 1 2") ≡ None) × (row_in (codes "sum") ≡ None)
 
--- what the code's numbers are
-abbrev pub listed : Numbers → List ℕ
-listed n = take n.count n.list
-
-abbrev pub found : Option Numbers → Option (List ℕ)
-found (Some n) = Some (listed n)
-found None = None
+-- the numbers that the code found
+abbrev pub found : Option (ArrayVec ℕ) → Option (List ℕ)
+found o = option_map (λ ns. ns.items) o
 
 -- numbers in front of others
 abbrev pub behind : List ℕ → Option (List ℕ) → Option (List ℕ)
-behind ns None = None
-behind ns (Some ms) = Some (ns ++ ms)
+behind ns o = option_map (λ ms. ns ++ ms) o
 
--- numbers, after a word was read by the word of a form; or none, where it does not fit that
-abbrev pub Matched : Numbers → List ℕ → List ℕ → Option Numbers → Type 0
-Matched n f w (Some m) = ((o : Option (List ℕ)) → behind (listed n) (matched f w o) ≡ behind (listed m) o) × (m.count ≤ suc n.count)
-Matched n f w None = (o : Option (List ℕ)) → matched f w o ≡ None
+-- the numbers before and after a word was read by the word of a form; or none, where it does not fit that
+abbrev pub Matched : List ℕ → List ℕ → List ℕ → List ℕ → Option (Unit {0}) → Type 0
+Matched ns f w ms (Some u) = (o : Option (List ℕ)) → behind ns (matched f w o) ≡ behind ms o
+Matched ns f w ms None = (o : Option (List ℕ)) → matched f w o ≡ None
 
 -- a row is written at the beginning of lent bytes, and its length is said; or there is none, and nothing is written
 abbrev pub RowWritten : Option (List ℕ) → List ℕ → List ℕ → Option ℕ → Type 0

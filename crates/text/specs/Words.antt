@@ -1,5 +1,6 @@
 -- Lines of words, and numbers in them. Assumes nothing: these are definitions.
-use Rattle.std.specs.Prelude.{ℕ, Bool, ◌&&◌, ◌||◌, List, [], ◌∷◌, ◌++◌, Some, None, Option, ◌==◌, nat_lt}
+use Rattle.std.specs.Prelude.{ℕ, ◌+◌, ◌*◌, Bool, ◌&&◌, ◌||◌, List, [], ◌∷◌, ◌++◌, Some, None, Option, ◌==◌, nat_lt}
+use Rattle.std.specs.Char.{is_ascii_digit, digit_value}
 use Rattle.std.specs.Str.Parse.{digits_value}
 use Rattle.std.specs.Str.{all_ascii_digits}
 use Rattle.bank.specs.Book.{pick}
@@ -28,6 +29,10 @@ spelled [] = []
 spelled (w ∷ []) = w
 spelled (w ∷ (v ∷ ws)) = w ++ (32 ∷ spelled (v ∷ ws))
 
+-- a number with one digit more, if a byte is a digit and eight bytes can carry the number
+abbrev pub digit_more : ℕ → ℕ → Option ℕ
+digit_more n b = pick (is_ascii_digit b && nat_lt (n * 10 + digit_value b) 18446744073709551616) (Some (n * 10 + digit_value b)) None
+
 -- the number that a word is: decimal digits, of a value that eight bytes can carry
-abbrev pub number_in : List ℕ → Option ℕ
-number_in w = pick (all_ascii_digits w && nat_lt (digits_value 10 w) 18446744073709551616) (Some (digits_value 10 w)) None
+abbrev pub word_number : List ℕ → Option ℕ
+word_number w = pick (all_ascii_digits w && nat_lt (digits_value 10 w) 18446744073709551616) (Some (digits_value 10 w)) None

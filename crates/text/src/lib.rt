@@ -3,5 +3,4 @@
 
 pub mod answer;
 pub mod line;
-mod numbers;
 mod word;

@@ -13,72 +13,70 @@
 // | 6 | statement ACCOUNT FIRST-DAY LAST-DAY |
 // | 7 | sums |
 // | 8 | taken |
-ghost use Rattle.std.specs.Prelude.{◌≡◌, ◌+◌, ◌<◌, ◌≤◌, [], length, IfOk, Some, None, string_bytes, Option, slice_index_or};
+ghost use Rattle.std.specs.Prelude.{◌≡◌, ◌+◌, ◌<◌, ◌≤◌, length, IfOk, IfSome, Some, string_bytes};
+ghost use Rattle.arrayvec.specs.ArrayVec.{array_vec_len};
 ghost use Rattle.wire.specs.Meaning.{meant};
 ghost use Rattle.text.specs.Words.{words};
-ghost use Rattle.text.specs.Lines.{Examples, Matched, ReadsNumbers, ReadsWords, RowWritten, ToldNumbers, by_forms, call_forms, call_line, few_numbers, followed, found, listed, numbers_by_lem, numbers_in_lem, row_in, row_of_numbers};
+ghost use Rattle.text.specs.Lines.{Examples, Matched, ReadsNumbers, ReadsWords, RowWritten, ToldNumbers, by_forms, call_forms, call_line, few_numbers, followed, form_numbers, found, line_numbers, row_in, row_of_numbers};
 
-use crate::numbers::{MOST, Numbers};
-use crate::word::{first_word, is_same, number_in};
+use crate::word::{Words, number_in};
+use arrayvec::ArrayVec;
 use std::alloc::{AllocError, Global};
-use wire::bytes::put_numbers;
+use std::fmt;
+use wire::bytes::put_form;
 use wire::call::Call;
 
 // The most bytes that a row can have that a line stands for: a byte, and eight for each number behind it.
 pub const LONGEST: usize = 65;
 
-// How many forms there are.
-const FORMS: u8 = 9;
+// The most numbers that a line can have: a byte, and eight fields behind it.
+const MOST: usize = 9;
 
-// The form of a call's line in words; a mark stands for a number.
-fn form(number: u8) -> &'static [u8]
-    requires { number < 9 }
-    ensures { result.now ≡ slice_index_or call_forms number [] }
-{
-    match number {
-        0 => b"open # #",
-        1 => b"rate # #",
-        2 => b"move # from # to # #",
-        3 => b"take back #",
-        4 => b"day ends",
-        5 => b"balance # # #",
-        6 => b"statement # # #",
-        7 => b"sums",
-        _ => b"taken",
-    }
-}
+// The numbers of a line, in their order.
+type Numbers = ArrayVec<u64, MOST>;
 
-// A word by the word of a form: a number more where that is a mark, else the same word.
-fn matched(numbers: Numbers, mark: &[u8], word: &[u8]) -> Option<Numbers>
-    requires { numbers.count < 9 }
-    ensures { Matched numbers mark.now word.now result }
+// The forms of calls in words, in the order of the bytes that calls begin with; a mark stands for a number.
+static FORMS: [&str; 9] = [
+    "open # #",
+    "rate # #",
+    "move # from # to # #",
+    "take back #",
+    "day ends",
+    "balance # # #",
+    "statement # # #",
+    "sums",
+    "taken",
+];
+
+// The word of a form that stands for a number.
+const MARK: &[u8] = b"#";
+
+// Reads a word by the word of a form: a number more where that is a mark, else the same word.
+fn read_by(mark: &[u8], word: &[u8], numbers: &mut Numbers) -> Option<()>
+    requires { array_vec_len numbers.old < 9 }
+    ensures read { Matched numbers.old.items mark.now word.now numbers.new.items result }
+    ensures few { array_vec_len numbers.new ≤ array_vec_len numbers.old + 1 }
 {
-    if is_same(mark, b"#") {
-        let n = number_in(word)?;
-        return Some(numbers.with(n));
+    if mark == MARK {
+        numbers.push(number_in(word)?);
+        return Some(());
     }
-    if is_same(mark, word) {
-        Some(numbers)
-    } else {
-        None
-    }
+    (mark == word).then_some(())
 }
 
 // The numbers of a line by a form, behind the number of that form.
-fn numbers_by(number: u8, form: &[u8], line: &[u8]) -> Option<Numbers>
+fn numbers_by(number: u64, form: &[u8], line: &[u8]) -> Option<Numbers>
     requires { length (words form.now) ≤ 8 }
-    ensures { found result ≡ followed (Some number) (numbers_by_lem (words form.now) (words line.now)) }
+    ensures { found result ≡ followed (Some number) (form_numbers (words form.now) (words line.now)) }
 {
-    let mut numbers = Numbers::none().with(number as u64);
-    let mut form = form;
-    let mut line = line;
-    while let Some((mark, more)) = first_word(form) {
-        let (word, rest) = first_word(line)?;
-        numbers = matched(numbers, mark, word)?;
-        form = more;
-        line = rest;
+    let mut numbers = Numbers::new();
+    numbers.push(number);
+    let mut words = Words::of(line);
+    for mark in Words::of(form) {
+        let word = words.next()?;
+        read_by(mark, word, &mut numbers)?;
     }
-    match first_word(line) {
+    match words.next() {
         Some(_) => None,
         None => Some(numbers),
     }
@@ -88,96 +86,93 @@ fn numbers_by(number: u8, form: &[u8], line: &[u8]) -> Option<Numbers>
 fn in_words(line: &[u8]) -> Option<Numbers>
     ensures { found result ≡ by_forms 0 call_forms (words line.now) }
 {
-    for number in 0..FORMS {
-        if let Some(numbers) = numbers_by(number, form(number), line) {
-            return Some(numbers);
-        }
-    }
-    None
+    FORMS.iter().enumerate().find_map(|(number, form)| numbers_by(
+        number as u64,
+        form.as_bytes(),
+        line,
+    ))
 }
 
 // The numbers of a line that has only numbers, and few enough.
 fn in_numbers(line: &[u8]) -> Option<Numbers>
     ensures { found result ≡ few_numbers (words line.now) }
 {
-    let mut numbers = Numbers::none();
-    let mut line = line;
-    while let Some((word, rest)) = first_word(line) {
-        if numbers.count == MOST {
-            return None;
-        }
+    let mut numbers = Numbers::new();
+    for word in Words::of(line) {
         let n = number_in(word)?;
-        numbers = numbers.with(n);
-        line = rest;
+        numbers.try_push(n).ok()?;
     }
     Some(numbers)
 }
 
 // The numbers that a line stands for.
 fn numbers_in(line: &[u8]) -> Option<Numbers>
-    ensures { found result ≡ numbers_in_lem (words line.now) }
+    ensures { found result ≡ line_numbers (words line.now) }
 {
-    match in_words(line) {
-        Some(numbers) => Some(numbers),
-        None => in_numbers(line),
-    }
+    in_words(line).or_else(|| in_numbers(line))
 }
 
 // Writes the row of some numbers: the first as a byte, and eight bytes for each other.
-fn put_row(numbers: Numbers, row: &mut [u8; LONGEST]) -> Option<usize>
-    ensures { RowWritten (row_of_numbers (Some (listed numbers))) row.old row.new result }
+fn put_row(numbers: &[u64], row: &mut [u8; LONGEST]) -> Option<usize>
+    requires { length numbers.now ≤ 9 }
+    ensures written { RowWritten (row_of_numbers (Some numbers.now)) row.old row.new result }
+    ensures within { IfSome result (λ n. n ≤ 65) }
 {
-    if numbers.count == 0 {
-        return None;
-    }
-    if numbers.list[0] > 255 {
-        return None;
-    }
-    row[0] = numbers.list[0] as u8;
-    let widths = [8; 8];
-    Some(put_numbers(
-        row,
-        1,
-        &widths[0..numbers.count - 1],
-        &numbers.list[1..numbers.count],
-    ))
+    let (first, fields) = numbers.split_first()?;
+    let byte = u8::try_from(*first).ok()?;
+    Some(put_form(row, byte, fields))
 }
 
 // Writes the row of bytes that a line stands for at the beginning of `row`, and says how many bytes it has; none where a line stands for no row.
+// It hands on a length and no part of `row`: with a part lent out, what stands behind it could not be proved unchanged.
 pub fn read_line(line: &[u8], row: &mut [u8; LONGEST]) -> Option<usize>
-    ensures { RowWritten (row_in line.now) row.old row.new result }
+    ensures written { RowWritten (row_in line.now) row.old row.new result }
+    ensures within { IfSome result (λ n. n ≤ 65) }
 {
-    put_row(numbers_in(line)?, row)
+    put_row(numbers_in(line)?.as_slice(), row)
+}
+
+// A call that is printed as its line in words.
+#[derive(Clone, Copy)]
+pub struct InWords(pub Call);
+
+impl fmt::Display for InWords {
+    ghost output = { λ line. Some (call_line (meant line.0)) };
+
+    #[tactic(auto, unfolding(crate::specs::Words::words_on))]
+    fn fmt<W: fmt::Write>(&self, f: &mut fmt::Formatter<W>) -> fmt::Result {
+        match self.0 {
+            Call::Open { limit, rate } => write!(f, "open {limit} {rate}"),
+            Call::Rate { account, rate } => write!(f, "rate {account} {rate}"),
+            Call::Move {
+                value,
+                from,
+                to,
+                amount,
+            } => write!(f, "move {value} from {from} to {to} {amount}"),
+            Call::TakeBack { booking } => write!(f, "take back {booking}"),
+            Call::DayEnds => write!(f, "day ends"),
+            Call::Balance {
+                account,
+                value,
+                known,
+            } => write!(f, "balance {account} {value} {known}"),
+            Call::Statement {
+                account,
+                first,
+                last,
+            } => write!(f, "statement {account} {first} {last}"),
+            Call::Sums => write!(f, "sums"),
+            Call::Taken => write!(f, "taken"),
+        }
+    }
 }
 
 // The line of a call in words.
 pub fn write_call(heap: Global, call: Call) -> Result<String, AllocError>
     ensures { IfOk result (λ s. string_bytes s ≡ call_line (meant call)) }
 {
-    match call {
-        Call::Open { limit, rate } => format!(in heap; "open {limit} {rate}"),
-        Call::Rate { account, rate } => format!(in heap; "rate {account} {rate}"),
-        Call::Move {
-            value,
-            from,
-            to,
-            amount,
-        } => format!(in heap; "move {value} from {from} to {to} {amount}"),
-        Call::TakeBack { booking } => format!(in heap; "take back {booking}"),
-        Call::DayEnds => String::from_str(heap, "day ends"),
-        Call::Balance {
-            account,
-            value,
-            known,
-        } => format!(in heap; "balance {account} {value} {known}"),
-        Call::Statement {
-            account,
-            first,
-            last,
-        } => format!(in heap; "statement {account} {first} {last}"),
-        Call::Sums => String::from_str(heap, "sums"),
-        Call::Taken => String::from_str(heap, "taken"),
-    }
+    InWords(call).to_string(heap)
 }
 
 // What is read is what was written: a call in words, and any row as numbers.

@@ -1,66 +1,82 @@
 // The words of a line: what stands between blanks; and the number that a word is.
-ghost use Rattle.std.specs.Prelude.{◌≡◌, ◌+◌, ◌*◌, ◌^◌, ◌<◌, ◌≤◌, true, false, ◌⊎◌, [], ◌∷◌, length, take, drop, Some, None, slice_index};
-ghost use Rattle.std.specs.Char.{is_ascii_digit, digit_value};
-ghost use Rattle.std.specs.Str.{bytes_eq};
-ghost use Rattle.text.specs.Words.{blank, ended, number_in, words};
+ghost use Rattle.std.specs.Prelude.{◌≡◌, not, [], ◌∷◌, Some, None, position};
+ghost use Rattle.std.specs.Iterator.{YieldsFirstRef, item_count};
+ghost use Rattle.text.specs.Words.{blank, digit_more, word_number, words};
+
+use std::marker::Model;
 
 // Does a byte stand between words: a space, a tab or a carriage return?
 fn is_blank(b: u8) -> bool
     ensures { result ≡ blank b }
 {
-    b == b' ' || b == b'\t' || b == b'\r'
+    matches!(b, b' ' | b'\t' | b'\r')
 }
 
-// How many blanks a line begins with.
-fn blanks(line: &[u8]) -> usize
-    ensures within { result ≤ length line.now }
-    ensures same { words (drop result line.now) ≡ words line.now }
-    ensures stops { result < length line.now → blank (slice_index line.now result) ≡ false }
+// Where the first word of a line begins, if it has one.
+fn word_start(line: &[u8]) -> Option<usize>
+    ensures { result ≡ position (λ b. not (blank b)) line.now }
 {
-    for (i, b) in line.iter().enumerate() {
-        if !is_blank(*b) {
-            return i;
-        }
-    }
-    line.len()
+    line.iter().position(|b| !is_blank(*b))
 }
 
-// How many bytes the word has that a line begins with.
-fn word_len(line: &[u8]) -> usize
-    requires { (0 < length line.now) × (blank (slice_index line.now 0) ≡ false) }
-    ensures within { result ≤ length line.now }
-    ensures some { 0 < result }
-    ensures word { words line.now ≡ ended (take result line.now) (words (drop result line.now)) }
+// Where the word ends that a line begins with, if something stands behind it.
+fn word_end(line: &[u8]) -> Option<usize>
+    ensures { result ≡ position blank line.now }
 {
-    for (i, b) in line.iter().enumerate() {
-        if is_blank(*b) {
-            return i;
-        }
-    }
-    line.len()
+    line.iter().position(|b| is_blank(*b))
 }
 
 // The first word of a line, and what stands behind it.
-pub(crate) fn first_word(line: &[u8]) -> Option<(&[u8], &[u8])>
-    ensures { elim result [ Some w ↦ (words line.now ≡ w.0.now ∷ words w.1.now) × (length w.1.now < length line.now) | None ↦ words line.now ≡ [] ] }
+fn first_word(line: &[u8]) -> Option<(&[u8], &[u8])>
+    ensures { elim result [ Some w ↦ words line.now ≡ w.0.now ∷ words w.1.now | None ↦ words line.now ≡ [] ] }
 {
-    let line = &line[blanks(line)..];
-    if line.is_empty() {
-        return None;
-    }
-    Some(line.split_at(word_len(line)))
+    let start = word_start(line)?;
+    let line = &line[start..];
+    let end = word_end(line).unwrap_or(line.len());
+    Some(line.split_at(end))
 }
 
-// Are two words the same?
-pub(crate) fn is_same(a: &[u8], b: &[u8]) -> bool
-    ensures { result ≡ bytes_eq a.now b.now }
-{
-    a == b
+// The words of a line that are left to read.
+#[derive(Drop)]
+pub(crate) struct Words<'a> {
+    rest: &'a [u8],
+}
+
+impl<'a> Model for Words<'a> {
+    ghost use Rattle.std.specs.Prelude.{ℕ, List};
+    ghost use Rattle.text.specs.Words.{words};
+
+    ghost Value = { List (List ℕ) };
+
+    ghost view = { λ w. words w.rest.now };
+}
+
+impl<'a> Words<'a> {
+    // All words of a line.
+    pub(crate) fn of(line: &'a [u8]) -> Words<'a>
+        ensures { result ≡ words line.now }
+    {
+        Words { rest: line }
+    }
+}
+
+impl<'a> Iterator for Words<'a> {
+    type Item = &'a [u8];
+
+    ghost next_gives = { YieldsFirstRef (λ ws. ws) };
+
+    ghost remaining = { item_count (λ ws. ws) };
+
+    fn next(&mut self) -> Option<&'a [u8]> {
+        let (word, rest) = first_word(self.rest)?;
+        self.rest = rest;
+        Some(word)
+    }
 }
 
 // A number with one digit more, if the byte is a digit and the number does not grow too large.
 fn with_digit(n: u64, b: u8) -> Option<u64>
-    ensures { elim result [ Some m ↦ (is_ascii_digit b ≡ true) × (m ≡ n * 10 + digit_value b) × (m < 2 ^ 64) | None ↦ (is_ascii_digit b ≡ false) ⊎ (2 ^ 64 ≤ n * 10 + digit_value b) ] }
+    ensures { result ≡ digit_more n b }
 {
     if !b.is_ascii_digit() {
         return None;
@@ -70,11 +86,7 @@ fn with_digit(n: u64, b: u8) -> Option<u64>
 
 // The number that a word is, if it is one.
 pub(crate) fn number_in(word: &[u8]) -> Option<u64>
-    ensures { result ≡ number_in word.now }
+    ensures { result ≡ word_number word.now }
 {
-    let mut n = 0;
-    for b in word {
-        n = with_digit(n, *b)?;
-    }
-    Some(n)
+    word.iter().try_fold(0, |n, b| with_digit(n, *b))
 }

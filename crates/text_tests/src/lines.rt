@@ -8,13 +8,9 @@ use wire::call::Call;
 // A line stands for a row, and nothing behind that is changed.
 fn reads(rt: &impl Abort, line: &[u8], row: &[u8]) {
     let mut out = [0xff; LONGEST];
-    assert!(rt; row.len() <= LONGEST);
-    assert_eq!(rt; read_line(line, &mut out), Some(row.len()));
-    assert_eq!(rt; &out[0..row.len()], row);
-    assert_eq!(rt;
-        &out[row.len()..LONGEST],
-        &[0xff; LONGEST][row.len()..LONGEST]
-    );
+    let end = read_line(line, &mut out).expect(rt, "the line stands for a row");
+    assert_eq!(rt; &out[..end], row);
+    assert!(rt; out[end..].iter().all(|b| *b == 0xff));
 }
 
 // A line stands for no row, and nothing is changed.

@@ -1,5 +1,5 @@
 -- Laws of answers as rows of bytes.
-use Rattle.std.proofs.Common.{◌≡◌, ℕ, suc, ◌+◌, ◌*◌, ◌<◌, ◌≤◌, Bool, true, false, eqb, List, [], ◌∷◌, ◌++◌, length, sym, refl, ap, ◌∙◌, append_assoc, arith, length-append}
+use Rattle.std.proofs.Common.{◌≡◌, ℕ, suc, ◌+◌, ◌*◌, ◌≤◌, Bool, true, false, eqb, List, [], ◌∷◌, ◌++◌, length, sym, refl, ap, ◌∙◌, append_assoc, arith, length-append}
 use Rattle.std.proofs.lemmas.List.{append-nil}
 use Rattle.bank.specs.Book.{Bank, Booking, pick}
 use Rattle.bank.specs.Calls.{Call, opens, rated, move, take_back, day_ends, balance, statement, sums, taken_so_far, garbled, Answer, refused, number, amounts, lines, answer, told, turned, place, lines_of}
@@ -7,7 +7,8 @@ use Rattle.device.specs.Rows.{with_bytes}
 use Rattle.device.proofs.Rows.{row_length}
 use Rattle.wire.specs.Bytes.{eights}
 use Rattle.wire.specs.Answered.{written_booking, written_bookings, answer_head, answer_lines, written_answer, streamed, Streams, Suffices, AnswersFit}
-use Rattle.wire.proofs.Numbers.{length_form, put_put}
+use Rattle.device.proofs.Parts.{with_more}
+use Rattle.wire.proofs.Numbers.{length_form}
 
 length_booking : (b : Booking) → length (written_booking b) ≡ 56
 length_booking b = row_length (eights 7) _
@@ -19,23 +20,13 @@ length_bookings (b ∷ bs) = rw length-append (omega (arith, length_booking b, l
 pub length_answer : (a : Answer) → length (written_answer a) ≡ length (answer_head a) + 56 * length (answer_lines a)
 length_answer a = rw length-append (omega (arith, length_bookings (answer_lines a)))
 
-pub head_short : (a : Answer) → (length (answer_head a) ≤ 17) × (0 < length (answer_lines a) → length (answer_head a) ≡ 9)
-head_short (refused r p) = (omega (arith, length_form 0 (r ∷ (p ∷ []))), λ h. absurd (omega arith))
-head_short (number n) = (omega (arith, length_form 1 (n ∷ [])), λ h. absurd (omega arith))
-head_short (amounts i o) = (omega (arith, length_form 2 (i ∷ (o ∷ []))), λ h. absurd (omega arith))
-head_short (lines bs) = (omega (arith, length_form 3 (length bs ∷ [])), λ h. length_form 3 (length bs ∷ []))
-
 -- bookings one behind another
-pub bookings_append : (bs cs : List Booking) → written_bookings (bs ++ cs) ≡ written_bookings bs ++ written_bookings cs
-bookings_append [] cs = refl
-bookings_append (b ∷ bs) cs = ap (λ r. written_booking b ++ r) (bookings_append bs cs) ∙ sym (append_assoc (written_booking b) (written_bookings bs) (written_bookings cs))
-
 streams_on : (out front : List ℕ) (bs : List Booking) → length front + 56 * length bs ≤ length out →
     streamed (with_bytes out 0 front) (length front) bs ≡ with_bytes out 0 (front ++ written_bookings bs)
 streams_on out front [] h = ap (with_bytes out 0) (sym (append-nil front))
 streams_on out front (b ∷ bs) h =
     let n : length (front ++ written_booking b) ≡ length front + 56 = length-append front (written_booking b) ∙ ap (λ k. length front + k) (length_booking b) in
-    ap (λ x. streamed x (length front + 56) bs) (put_put out front (written_booking b) 0 (length front) (omega arith) (omega arith))
+    ap (λ x. streamed x (length front + 56) bs) (with_more out front (written_booking b) 0 (length front) (omega arith) (omega arith))
     ∙ ap (λ k. streamed (with_bytes out 0 (front ++ written_booking b)) k bs) (sym n)
     ∙ streams_on out (front ++ written_booking b) bs (omega arith)
     ∙ ap (with_bytes out 0) (append_assoc front (written_booking b) (written_bookings bs))
@@ -43,24 +34,11 @@ streams_on out front (b ∷ bs) h =
 pub streams : Streams
 streams out a h = streams_on out (answer_head a) (answer_lines a) (omega (arith, length_answer a))
 
--- IN A LOOP: one booking more is written behind the head, and at the end it is the answer
-pub booking_push : (out : List ℕ) (bs : List Booking) (b : Booking) → 9 + 56 * length bs ≤ length out →
-    with_bytes (with_bytes out 9 (written_bookings bs)) (9 + 56 * length bs) (written_booking b) ≡ with_bytes out 9 (written_bookings (bs ++ (b ∷ [])))
-booking_push out bs b h =
-    put_put out (written_bookings bs) (written_booking b) 9 (9 + 56 * length bs) (ap (λ k. 9 + k) (length_bookings bs)) h
-    ∙ ap (with_bytes out 9) (sym (bookings_append bs (b ∷ []) ∙ ap (λ r. written_bookings bs ++ r) (append-nil (written_booking b))))
-
-pub statement_whole : (out : List ℕ) (bs : List Booking) → length (written_answer (lines bs)) ≤ length out →
-    with_bytes (with_bytes out 0 (answer_head (lines bs))) 9 (written_bookings bs) ≡ with_bytes out 0 (written_answer (lines bs))
-statement_whole out bs h =
-    let n = length_form 3 (length bs ∷ []) in
-    put_put out (answer_head (lines bs)) (written_bookings bs) 0 9 (omega arith) (omega (arith, length_answer (lines bs)))
-
 -- HOW LONG AN ANSWER IS
 pub suffices : (most bytes : ℕ) → 17 ≤ bytes → 9 + 56 * most ≤ bytes → Suffices most bytes
-suffices most bytes h l (refused r p) few = omega (arith, length_answer (refused r p), (head_short (refused r p)).0)
-suffices most bytes h l (number n) few = omega (arith, length_answer (number n), (head_short (number n)).0)
-suffices most bytes h l (amounts i o) few = omega (arith, length_answer (amounts i o), (head_short (amounts i o)).0)
+suffices most bytes h l (refused r p) few = omega (arith, length_answer (refused r p), length_form 0 (r ∷ p ∷ []))
+suffices most bytes h l (number n) few = omega (arith, length_answer (number n), length_form 1 (n ∷ []))
+suffices most bytes h l (amounts i o) few = omega (arith, length_answer (amounts i o), length_form 2 (i ∷ o ∷ []))
 suffices most bytes h l (lines bs) few = omega (arith, length_answer (lines bs), length_form 3 (length bs ∷ []))
 
 pick_few : (t : Bool) (b : Booking) (bs : List Booking) (n : ℕ) → length bs ≤ n → length (pick t (b ∷ bs) bs) ≤ suc n

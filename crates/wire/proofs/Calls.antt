@@ -17,10 +17,10 @@ use Rattle.wire.specs.Format.{First, begins, fails, alone, arity, call_fields, c
 use Rattle.wire.proofs.Numbers.{bytes_tail, get_or_zeros, length_numbers, narrow_eights, numbers_small, row_again, width_eights}
 
 -- a call's numbers as the code has them
-abbrev pub padded : Call → List ℕ
-padded c = call_fields (meant c) ++ replicate (4 - length (call_fields (meant c))) 0
+abbrev pub padded : Meant → List ℕ
+padded c = call_fields c ++ replicate (4 - length (call_fields c)) 0
 
-pub fields_front : (c : Call) → take (arity (call_number (meant c)) - 0) (padded c) ≡ call_fields (meant c)
+pub fields_front : (c : Call) → take (arity (call_number (meant c)) - 0) (padded (meant c)) ≡ call_fields (meant c)
 fields_front (Open m r) = refl
 fields_front (Rate a r) = refl
 fields_front (Move v a b x) = refl
@@ -63,25 +63,17 @@ first_cases P none unknown short fit (t ∷ bs) =
     ]
 
 -- AS CODE READS A CALL
-pub first_read : (bs rest ws ns : List ℕ) (t m : ℕ) (c : Meant) → bs ≡ t ∷ rest → t < 9 → 8 * arity t ≤ length rest → ws ≡ eights (arity t) →
-    ns ≡ numbers ws (drop 0 rest) ++ replicate m 0 → c ≡ call_of_lem t ns → first_call bs ≡ begins c (take (length rest - 8 * arity t) (drop (8 * arity t) rest))
-first_read bs rest ws ns t m c e h l w n is =
-    let same : c ≡ call_of_lem t (numbers (eights (arity t)) rest) =
-    is ∙ ap (call_of_lem t) n ∙ same_call t (numbers ws rest ++ replicate m 0) (numbers ws rest) (get_or_zeros (numbers ws rest) m) ∙ ap (λ x. call_of_lem t (numbers x rest)) w in
-    ap first_call e ∙ first_fit t rest h l ∙ ap (λ x. begins x (drop (8 * arity t) rest)) (sym same) ∙ ap (begins c) (sym (take_rest rest (8 * arity t)))
-
--- what stands behind a call is no longer than the whole
-abbrev behind : First → List ℕ
-behind (begins c rest) = rest
-behind (fails k) = []
-
-pub first_shorter : (bs : List ℕ) (c : Meant) (rest : List ℕ) → first_call bs ≡ begins c rest → length rest ≤ length bs
-first_shorter bs c rest e =
-    subst (λ f. length (behind f) ≤ length bs) e
-    (first_cases (λ xs f. length (behind f) ≤ length xs) (omega arith) (λ t xs. omega arith) (λ t xs. omega arith) (λ t xs h l. simp length-drop (omega arith)) bs)
+pub first_read : (bs rest ws ns : List ℕ) (t k m : ℕ) (c : Meant) → bs ≡ t ∷ rest → t < 9 → k ≡ arity t → 8 * k ≤ length rest → ws ≡ eights k →
+    ns ≡ numbers ws (drop 0 rest) ++ replicate m 0 → c ≡ call_of_lem t ns → first_call bs ≡ begins c (take (length rest - 8 * k) (drop (8 * k) rest))
+first_read bs rest ws ns t k m c e h a l w n is =
+    let same : call_of_lem t (numbers (eights k) rest) ≡ c =
+    ap (λ x. call_of_lem t (numbers x rest)) (sym w) ∙ sym (is ∙ ap (call_of_lem t) n ∙ same_call t (numbers ws rest ++ replicate m 0) (numbers ws rest) (get_or_zeros (numbers ws rest) m)) in
+    ap first_call e ∙ first_fit t rest h (omega arith)
+    ∙ ap (λ j. begins (call_of_lem t (numbers (eights j) rest)) (drop (8 * j) rest)) (sym a)
+    ∙ ap (λ x. begins x (drop (8 * k) rest)) same ∙ ap (begins c) (sym (take_rest rest (8 * k)))
 
 -- AS CODE WRITES A CALL
-pub call_written : (c : Call) (t : ℕ) (fs : List ℕ) → t ≡ call_number (meant c) → fs ≡ padded c → form t (take (arity t - 0) fs) ≡ written_call (meant c)
+pub call_written : (c : Call) (t : ℕ) (fs : List ℕ) → t ≡ call_number (meant c) → fs ≡ padded (meant c) → form t (take (arity t - 0) fs) ≡ written_call (meant c)
 call_written c t fs e f =
     ap (λ k. form k (take (arity k - 0) fs)) e ∙ ap (λ x. form (call_number (meant c)) (take (arity (call_number (meant c)) - 0) x)) f ∙ ap (form (call_number (meant c))) (fields_front c)
 

@@ -1,10 +1,14 @@
 -- Laws of numbers in bytes and of bytes written into others.
-use Rattle.std.proofs.Common.{◌≡◌, ℕ, zero, suc, ◌+◌, ◌-◌, ◌*◌, ◌/◌, ◌%◌, ◌<◌, ◌≤◌, true, ltb, leb, List, [], ◌∷◌, ◌++◌, length, get_or, take, drop, set, replicate, sym, refl, ap, ◌∙◌, append_assoc, add-zero, add_assoc, suc-add, zero-add, add-one, arith, length-append, length-drop, length-take}
+use Rattle.std.proofs.Common.{◌≡◌, ℕ, zero, suc, ◌+◌, ◌-◌, ◌*◌, ◌/◌, ◌%◌, ◌<◌, ◌≤◌, true, ltb, leb, List, [], ◌∷◌, ◌++◌, length, get_or, take, drop, set, replicate, sym, refl, ap, ◌∙◌, append_assoc, suc-add, zero-add, arith, length-drop}
 use native.Mathlib.Nat.{div-div-eq-div-mul}
-use Rattle.std.proofs.lemmas.List.{take_at, drop_at, drop-drop, take-append-drop, take-append-le, drop-append-le, drop-replicate, take-replicate, append-nil, length-take-le, set_at, set_split, drop-take}
-use borrow.Rule.Slice.PartMut.{put_mid, Post-is}
+use lib.ListN.{length-replicate}
+use Rattle.std.proofs.Math.Seq.{take-add}
+use Rattle.std.proofs.lemmas.List.{places, take_more_set, drop_all, drop_more, drop-set-lt, drop-drop, take-append-drop, drop-replicate, take-replicate}
+use Rattle.std.proofs.lemmas.Slice.{between_is}
+use borrow.Rule.Slice.PartMut.{put_mid}
 use Rattle.device.specs.Rows.{bytes_of, number_of, numbers, row, top, width, with_bytes}
-use Rattle.device.proofs.Rows.{row_length, zeros}
+use Rattle.device.proofs.Parts.{with_more, with_none, with_one}
+use Rattle.device.proofs.Rows.{length_bytes, row_length, zeros}
 use Rattle.std.proofs.lemmas.Bool.{and_parts, leb-true, ltb-true}
 use Rattle.device.specs.Device.{all_bytes}
 use Rattle.wire.specs.Bytes.{eights, form, narrow}
@@ -45,29 +49,6 @@ number_front zero m xs h = rw zero-add (zeros m m)
 number_front (suc k) m [] h = absurd (omega arith)
 number_front (suc k) m (x ∷ xs) h = rw suc-add (ap (λ (r : ℕ). x + 256 * r) (number_front k m xs (omega arith)))
 
--- what is written at the end of a front
-put_at : (p q zs : List ℕ) (n : ℕ) → length p ≡ n → with_bytes (p ++ q) n zs ≡ p ++ (zs ++ drop (length zs) q)
-put_at p q zs n l = rw (← drop-drop (length zs) n (p ++ q), take_at p q n l, drop_at p q n l) refl
-
--- one piece written behind another
-pub put_put : (xs ys zs : List ℕ) (at e : ℕ) → at + length ys ≡ e → e ≤ length xs → with_bytes (with_bytes xs at ys) e zs ≡ with_bytes xs at (ys ++ zs)
-put_put xs ys zs at e s h =
-    let l : length (take at xs ++ ys) ≡ at + length ys = simp (length-append, length-take) (omega arith) in
-    rw (← s, ← append_assoc (take at xs) ys (drop (at + length ys) xs), put_at (take at xs ++ ys) (drop (at + length ys) xs) zs (at + length ys) l)
-    (simp (append_assoc, drop-drop, length-append, add_assoc))
-
-pub put_none : (xs : List ℕ) (at : ℕ) → with_bytes xs at [] ≡ xs
-put_none xs at = rw (add-zero at) (take-append-drop at xs)
-
-pub put_one : (xs : List ℕ) (at b : ℕ) → at < length xs → set xs at b ≡ with_bytes xs at (b ∷ [])
-put_one xs at b h = rw (add-one at) (set_split xs at b h)
-
--- what a write to a part leaves
-pub put_part : (a e : ℕ) (xs ys zs : List ℕ) → ys ≡ zs → a + length zs ≡ e → put_mid a (e - a) xs ys ≡ with_bytes xs a zs
-put_part a e xs ys zs s l =
-    let h : a ≤ e = omega arith in
-    rw (s, l) (ap (λ (r : List ℕ). take a xs ++ (zs ++ r)) (Post-is a e xs h))
-
 -- the first bytes of a word of eight, and a word of which the first bytes were written
 pub word_front : (k n : ℕ) (word : List ℕ) → k ≤ 8 → word ≡ bytes_of 8 n → take (k - 0) word ≡ bytes_of k n
 word_front k n word h e =
@@ -85,78 +66,14 @@ word_filled k at bytes part h l e =
     let filled : put_mid 0 (k - 0) (replicate 8 0) part ≡ take k (drop at bytes) ++ replicate (8 - k) 0 = rw (same, e, wide, drop-replicate {X = ℕ} k 8 0) refl in
     ap (number_of 8) filled ∙ ap (λ m. number_of m (take k (drop at bytes) ++ replicate (8 - k) 0)) eight ∙ number_front k (8 - k) (drop at bytes) long
 
--- widths one by one
-pub narrow_at : (ks : List ℕ) (i : ℕ) → narrow ks ≡ true → get_or ks i 0 ≤ 8
-narrow_at [] i h = omega arith
-narrow_at (k ∷ ks) zero h = leb-true k 8 (and_parts (leb k 8) (narrow ks) h).0
-narrow_at (k ∷ ks) (suc i) h = narrow_at ks i (and_parts (leb k 8) (narrow ks) h).1
-
-width_suc : (ks : List ℕ) (i : ℕ) → width (take (suc i) ks) ≡ width (take i ks) + get_or ks i 0
-width_suc [] zero = refl
-width_suc [] (suc i) = refl
-width_suc (k ∷ ks) zero = omega arith
-width_suc (k ∷ ks) (suc i) = omega (arith, width_suc ks i)
-
-pub width_more : (ks : List ℕ) (i : ℕ) → width (take (i + 1) ks) ≡ width (take i ks) + get_or ks i 0
-width_more ks i = rw add-one (width_suc ks i)
-
-width_front : (ks : List ℕ) (i : ℕ) → width (take i ks) ≤ width ks
-width_front ks zero = omega arith
-width_front [] (suc i) = omega arith
-width_front (k ∷ ks) (suc i) = omega (arith, width_front ks i)
-
-pub width_within : (ks : List ℕ) (i : ℕ) → width (take i ks) + get_or ks i 0 ≤ width ks
-width_within ks i = omega (arith, width_suc ks i, width_front ks (suc i))
-
--- one number more is written
-row_suc : (ks ns : List ℕ) (i : ℕ) → i < length ks → i < length ns → row (take (suc i) ks) ns ≡ row (take i ks) ns ++ bytes_of (get_or ks i 0) (get_or ns i 0)
-unfolding row
-row_suc [] ns i h l = absurd (omega arith)
-row_suc (k ∷ ks) [] i h l = absurd (omega arith)
-row_suc (k ∷ ks) (n ∷ ns) zero h l = append-nil (bytes_of k n)
-row_suc (k ∷ ks) (n ∷ ns) (suc i) h l = ap (λ r. bytes_of k n ++ r) (row_suc ks ns i (omega arith) (omega arith)) ∙ sym (append_assoc (bytes_of k n) (row (take i ks) ns) (bytes_of (get_or ks i 0) (get_or ns i 0)))
-
-pub put_more : (xs : List ℕ) (at : ℕ) (ks ns : List ℕ) (i : ℕ) → i < length ks → i < length ns → at + width ks ≤ length xs →
-    with_bytes (with_bytes xs at (row (take i ks) ns)) (at + width (take i ks)) (bytes_of (get_or ks i 0) (get_or ns i 0)) ≡ with_bytes xs at (row (take (i + 1) ks) ns)
-put_more xs at ks ns i h l room =
-    put_put xs (row (take i ks) ns) (bytes_of (get_or ks i 0) (get_or ns i 0)) at (at + width (take i ks)) (ap (λ k. at + k) (row_length (take i ks) ns)) (omega (arith, width_within ks i))
-    ∙ rw add-one (ap (with_bytes xs at) (sym (row_suc ks ns i h l)))
-
--- one number more is read
-numbers_suc : (ks bs : List ℕ) (i : ℕ) → i < length ks → numbers (take (suc i) ks) bs ≡ numbers (take i ks) bs ++ (number_of (get_or ks i 0) (drop (width (take i ks)) bs) ∷ [])
-unfolding numbers
-numbers_suc [] bs i h = absurd (omega arith)
-numbers_suc (k ∷ ks) bs zero h = refl
-numbers_suc (k ∷ ks) bs (suc i) h =
-    ap (λ r. number_of k bs ∷ r) (numbers_suc ks (drop k bs) i (omega arith) ∙ ap (λ r. numbers (take i ks) (drop k bs) ++ (number_of (get_or ks i 0) r ∷ [])) (drop-drop (width (take i ks)) k bs))
-
 pub length_numbers : (ks bs : List ℕ) → length (numbers ks bs) ≡ length ks
 unfolding numbers
 length_numbers [] bs = refl
 length_numbers (k ∷ ks) bs = ap suc (length_numbers ks (drop k bs))
 
-pub read_more : (ks bytes : List ℕ) (at end i n : ℕ) → i < length ks → length ks ≤ 8 → end ≡ at + width (take i ks) → n ≡ number_of (get_or ks i 0) (drop end bytes) →
-    set (numbers (take i ks) (drop at bytes) ++ replicate (8 - i) 0) i n ≡ numbers (take (i + 1) ks) (drop at bytes) ++ replicate (8 - (i + 1)) 0
-read_more ks bytes at end i n h few e is =
-    let front : List ℕ = numbers (take i ks) (drop at bytes) in
-    let long : length front ≡ i = length_numbers (take i ks) (drop at bytes) ∙ length-take-le i ks (omega arith) in
-    let one : 8 - i ≡ suc (8 - (i + 1)) = omega arith in
-    let same : number_of (get_or ks i 0) (drop (width (take i ks)) (drop at bytes)) ≡ n = ap (number_of (get_or ks i 0)) (drop-drop (width (take i ks)) at bytes ∙ ap (λ k. drop k bytes) (sym e)) ∙ sym is in
-    ap (λ m. set (front ++ replicate m 0) i n) one
-    ∙ set_at front 0 (replicate (8 - (i + 1)) 0) n i long
-    ∙ sym (append_assoc front (n ∷ []) (replicate (8 - (i + 1)) 0))
-    ∙ ap (λ r. r ++ replicate (8 - (i + 1)) 0) (ap (λ m. front ++ (m ∷ [])) (sym same) ∙ sym (numbers_suc ks (drop at bytes) i h) ∙ ap (λ k. numbers (take k ks) (drop at bytes)) (sym (add-one i)))
-
-pub length_put : (xs ys : List ℕ) (at : ℕ) → at + length ys ≤ length xs → length (with_bytes xs at ys) ≡ length xs
-length_put xs ys at h = simp (length-append, length-take, length-drop) (omega arith)
-
 -- zeros behind a list are what stands past its end
 pub get_or_zeros : (xs : List ℕ) (m i : ℕ) → get_or (xs ++ replicate m 0) i 0 ≡ get_or xs i 0
-get_or_zeros [] zero i = refl
-get_or_zeros [] (suc m) zero = refl
-get_or_zeros [] (suc m) (suc i) = get_or_zeros [] m i
-get_or_zeros (x ∷ xs) m zero = refl
-get_or_zeros (x ∷ xs) m (suc i) = get_or_zeros xs m i
+get_or_zeros xs m i = grind (arith, places)
 
 -- widths of eight
 pub eights_front : (n : ℕ) → n ≤ 8 → take (n - 0) (replicate 8 8) ≡ eights n
@@ -177,8 +94,8 @@ length_form t ns = omega (arith, row_length (eights (length ns)) ns, width_eight
 pub form_put : (out after ws : List ℕ) (t : ℕ) (ns : List ℕ) → 0 < length out → after ≡ with_bytes (set out 0 t) 1 (row ws ns) → ws ≡ eights (length ns) → after ≡ with_bytes out 0 (form t ns)
 form_put out after ws t ns h e w =
     e ∙ ap (λ x. with_bytes (set out 0 t) 1 (row x ns)) w
-    ∙ ap (λ x. with_bytes x 1 (row (eights (length ns)) ns)) (put_one out 0 t h)
-    ∙ put_put out (t ∷ []) (row (eights (length ns)) ns) 0 1 refl (omega arith)
+    ∙ ap (λ x. with_bytes x 1 (row (eights (length ns)) ns)) (with_one out 0 t h)
+    ∙ with_more out (t ∷ []) (row (eights (length ns)) ns) 0 1 refl (omega arith)
 
 -- bytes are those of the number that they are
 pub bytes_again : (k : ℕ) (bs : List ℕ) → all_bytes bs ≡ true → k ≤ length bs → bytes_of k (number_of k bs) ≡ take k bs
@@ -202,12 +119,6 @@ bytes_rest zero bs b = b
 bytes_rest (suc k) [] b = refl
 bytes_rest (suc k) (x ∷ bs) b = bytes_rest k bs (bytes_tail x bs b)
 
-take_sum : (k m : ℕ) (bs : List ℕ) → take k bs ++ take m (drop k bs) ≡ take (k + m) bs
-take_sum zero m bs = rw zero-add
-take_sum (suc k) zero [] = rw add-zero
-take_sum (suc k) (suc m) [] = rw suc-add
-take_sum (suc k) m (x ∷ bs) = rw suc-add (ap (λ r. x ∷ r) (take_sum k m bs))
-
 pub row_again : (ks bs : List ℕ) → all_bytes bs ≡ true → width ks ≤ length bs → row ks (numbers ks bs) ≡ take (width ks) bs
 unfolding row numbers
 row_again [] bs b h = refl
@@ -215,7 +126,7 @@ row_again (k ∷ ks) bs b h =
     let long : width ks ≤ length (drop k bs) = simp length-drop (omega arith) in
     ap (λ r. r ++ row ks (numbers ks (drop k bs))) (bytes_again k bs b (omega arith))
     ∙ ap (λ r. take k bs ++ r) (row_again ks (drop k bs) (bytes_rest k bs b) long)
-    ∙ take_sum k (width ks) bs
+    ∙ sym (take-add k (width ks) bs)
 
 -- and it is below what so many bytes can hold
 number_small : (k : ℕ) (bs : List ℕ) → all_bytes bs ≡ true → number_of k bs < top k
@@ -226,50 +137,18 @@ number_small (suc k) (x ∷ bs) b =
     let q = and_parts (ltb x 256) (all_bytes bs) b in
     omega (arith, ltb-true x 256 q.0, number_small k bs q.1)
 
-top_small : (k : ℕ) → k ≤ 8 → top k ≤ 18446744073709551616
-top_small zero h = omega arith
-top_small (suc zero) h = omega arith
-top_small (suc (suc zero)) h = omega arith
-top_small (suc (suc (suc zero))) h = omega arith
-top_small (suc (suc (suc (suc zero)))) h = omega arith
-top_small (suc (suc (suc (suc (suc zero))))) h = omega arith
-top_small (suc (suc (suc (suc (suc (suc zero)))))) h = omega arith
-top_small (suc (suc (suc (suc (suc (suc (suc zero))))))) h = omega arith
-top_small (suc (suc (suc (suc (suc (suc (suc (suc zero)))))))) h = omega arith
-top_small (suc (suc (suc (suc (suc (suc (suc (suc (suc k))))))))) h = absurd (omega arith)
+top_grows : (k m : ℕ) → top k ≤ top (m + k)
+top_grows k zero = rw zero-add (omega arith)
+top_grows k (suc m) = rw suc-add (omega (arith, top_grows k m))
 
 word_small : (k : ℕ) → k ≤ 8 → (n : ℕ) → n < top k → n < 18446744073709551616
-word_small k h n l = omega (arith, top_small k h)
+word_small k h n l = let s : 8 - k + k ≡ 8 = omega arith in omega (arith, rw s at (top_grows k (8 - k)))
 
 pub numbers_small : (ks bs : List ℕ) → all_bytes bs ≡ true → narrow ks ≡ true → (i : ℕ) → get_or (numbers ks bs) i 0 < 18446744073709551616
 unfolding numbers
 numbers_small [] bs b n i = omega arith
 numbers_small (k ∷ ks) bs b n zero = let q = and_parts (leb k 8) (narrow ks) n in word_small k (leb-true k 8 q.0) (number_of k bs) (number_small k bs b)
 numbers_small (k ∷ ks) bs b n (suc i) = numbers_small ks (drop k bs) (bytes_rest k bs b) (and_parts (leb k 8) (narrow ks) n).1 i
-
--- what stands before and behind what was written is as it was
-pub put_before : (xs ys : List ℕ) (at i k : ℕ) → at ≤ length xs → i + k ≤ at → take k (drop i (with_bytes xs at ys)) ≡ take k (drop i xs)
-put_before xs ys at i k h b =
-    let l : i ≤ length (take at xs) = simp length-take (omega arith) in
-    let m : k ≤ length (drop i (take at xs)) = simp (length-drop, length-take) (omega arith) in
-    let front : (r : List ℕ) → take k (drop i (take at xs ++ r)) ≡ take k (drop i (take at xs)) =
-    λ r. ap (take k) (drop-append-le i (take at xs) r l) ∙ take-append-le k (drop i (take at xs)) r m in
-    front (ys ++ drop (at + length ys) xs) ∙ sym (ap (λ x. take k (drop i x)) (sym (take-append-drop at xs)) ∙ front (drop at xs))
-
-pub put_behind : (xs ys : List ℕ) (at i : ℕ) → at + length ys ≤ length xs → at + length ys ≤ i → drop i (with_bytes xs at ys) ≡ drop i xs
-put_behind xs ys at i h b =
-    let e : ℕ = at + length ys in
-    let l : length (take at xs ++ ys) ≡ e = simp (length-append, length-take) (omega arith) in
-    let s : i ≡ e + (i - e) = omega arith in
-    ap (λ n. drop n (with_bytes xs at ys)) s
-    ∙ sym (drop-drop (i - e) e (with_bytes xs at ys))
-    ∙ ap (drop (i - e)) (ap (drop e) (sym (append_assoc (take at xs) ys (drop e xs))) ∙ drop_at (take at xs ++ ys) (drop e xs) e l)
-    ∙ drop-drop (i - e) e xs
-    ∙ ap (λ n. drop n xs) (sym s)
-
--- and at its place stands what was written
-pub put_there : (xs ys : List ℕ) (at : ℕ) → at ≤ length xs → drop at (with_bytes xs at ys) ≡ ys ++ drop (at + length ys) xs
-put_there xs ys at h = drop_at (take at xs) (ys ++ drop (at + length ys) xs) at (length-take-le at xs h)
 
 -- numbers are read from the bytes that they have
 pub number_within : (k n : ℕ) (bs : List ℕ) → k ≤ n → number_of k (take n bs) ≡ number_of k bs
@@ -279,15 +158,41 @@ number_within (suc k) zero bs h = absurd (omega arith)
 number_within (suc k) (suc n) [] h = refl
 number_within (suc k) (suc n) (b ∷ bs) h = ap (λ r. b + 256 * r) (number_within k n bs (omega arith))
 
-drop_within : (k n : ℕ) (bs : List ℕ) → k ≤ n → drop k (take n bs) ≡ take (n - k) (drop k bs)
-drop_within k n bs h = let s : n ≡ k + (n - k) = omega arith in ap (λ m. drop k (take m bs)) s ∙ drop-take k (n - k) bs
-
 front_numbers : (ks bs : List ℕ) (n : ℕ) → width ks ≤ n → numbers ks (take n bs) ≡ numbers ks bs
 unfolding numbers
 front_numbers [] bs n h = refl
 front_numbers (k ∷ ks) bs n h =
     ap (λ x. x ∷ numbers ks (drop k (take n bs))) (number_within k n bs (omega arith))
-    ∙ ap (λ x. number_of k bs ∷ x) (ap (numbers ks) (drop_within k n bs (omega arith)) ∙ front_numbers ks (drop k bs) (n - k) (omega arith))
+    ∙ ap (λ x. number_of k bs ∷ x) (ap (numbers ks) (sym (between_is bs k n)) ∙ front_numbers ks (drop k bs) (n - k) (omega arith))
 
 pub numbers_within : (ks bs : List ℕ) (i n : ℕ) → i + width ks ≤ n → numbers ks (drop i (take n bs)) ≡ numbers ks (drop i bs)
-numbers_within ks bs i n h = ap (numbers ks) (drop_within i n bs (omega arith)) ∙ front_numbers ks (drop i bs) (n - i) (omega arith)
+numbers_within ks bs i n h = ap (numbers ks) (sym (between_is bs i n)) ∙ front_numbers ks (drop i bs) (n - i) (omega arith)
+
+-- a number more is written behind those that were
+pub row_begun : (xs out : List ℕ) (at k n : ℕ) (ks ns : List ℕ) → at + k ≤ length xs → out ≡ with_bytes xs at (bytes_of k n) → with_bytes out (at + k) (row ks ns) ≡ with_bytes xs at (row (k ∷ ks) (n ∷ ns))
+unfolding row
+row_begun xs out at k n ks ns h e = ap (λ o. with_bytes o (at + k) (row ks ns)) e ∙ with_more xs (bytes_of k n) (row ks ns) at (at + k) (ap (λ m. at + m) (length_bytes k n)) h
+
+pub row_done : (out : List ℕ) (at : ℕ) (ks ns : List ℕ) → length ks ≡ 0 → with_bytes out at (row ks ns) ≡ out
+unfolding row
+row_done out at [] ns h = with_none out at
+row_done out at (k ∷ ks) ns h = absurd (omega arith)
+
+-- a number more is read behind those that were, with zeros behind it still
+pub one_wide : (ks : List ℕ) (i : ℕ) → i < length ks → narrow (drop i ks) ≡ true →
+    (width (drop i ks) ≡ get_or ks i 0 + width (drop (i + 1) ks)) × (narrow (drop (i + 1) ks) ≡ true)
+one_wide ks i h e = (ap width (drop_more ks i 0 h), (and_parts _ _ (rw (drop_more ks i 0 h) at e)).1)
+
+pub zeros_next : (ns : List ℕ) (i n m k : ℕ) → drop i ns ≡ replicate m 0 → m - 1 ≡ k → drop (i + 1) (set ns i n) ≡ replicate k 0
+zeros_next ns i n m k e s = rw (← s) (drop-set-lt (i + 1) ns i n (omega arith) ∙ sym (drop-drop 1 i ns) ∙ ap (drop 1) e ∙ drop-replicate {X = ℕ} 1 m 0)
+
+pub numbers_next : (ns ks bytes zs : List ℕ) (end i n m : ℕ) → i < length ks → 0 < m → drop i ns ≡ replicate m 0 → n ≡ number_of (get_or ks i 0) (drop end bytes) →
+    take (i + 1) (set ns i n) ++ (numbers (drop (i + 1) ks) (drop (end + get_or ks i 0) bytes) ++ zs) ≡ take i ns ++ (numbers (drop i ks) (drop end bytes) ++ zs)
+unfolding numbers
+numbers_next ns ks bytes zs end i n m h p z e =
+    let l : i < length ns = omega (arith, length-drop i ns, ap length z, length-replicate {A = ℕ} m 0) in
+    rw (take_more_set ns i n l, append_assoc, drop_more ks i 0 h, e, drop-drop) refl
+
+pub numbers_done : (ns ks bs whole : List ℕ) (i m k : ℕ) → length ks ≤ i → drop i ns ≡ replicate m 0 → m ≡ k → take i ns ++ (numbers (drop i ks) bs ++ replicate k 0) ≡ whole → ns ≡ whole
+unfolding numbers
+numbers_done ns ks bs whole i m k h z s e = sym (take-append-drop i ns) ∙ (rw (drop_all i ks h, ← s, ← z) at e)

@@ -8,50 +8,40 @@ use Rattle.bank.specs.Calls.{Call as Meant}
 use Rattle.bank.specs.Calls.{opens, rated, move, take_back, day_ends, balance, statement, sums, taken_so_far, garbled, turned}
 use Rattle.bank.specs.Promise.{asks}
 use Rattle.device.specs.Rows.{bytes_of, number_of, numbers, row, row_of, thing_in, used_by, width, with_bytes}
+use Rattle.device.proofs.Parts.{part_written, with_before, with_length, with_more, with_rest, with_there}
 use Rattle.device.proofs.Rows.{length_bytes, number_back, row_length, row_of_back, row_of_length, zeros}
 use Rattle.model.specs.JournalBlock.{call_from, call_kind, call_numbers, call_row, call_widths, stored}
 use Rattle.model.proofs.JournalBlock.{call_back, call_fits, storable}
 use Rattle.bank.proofs.Limited.{never}
-use Rattle.wire.specs.declared.call.Call.{Call}
-use Rattle.wire.specs.declared.call.Call.TheVariants.{Open, Rate, Move, TakeBack, DayEnds, Balance, Statement, Sums, Taken}
-use Rattle.wire.specs.Meaning.{meant}
 use Rattle.wire.specs.Format.{call_number, call_of_lem}
 use Rattle.wire.specs.JournalRow.{Apart, Empty, HasRow, Remembers, kind_at}
 use Rattle.std.proofs.lemmas.List.{drop-drop, drop-replicate}
-use Rattle.wire.proofs.Numbers.{get_or_zeros, length_put, number_within, numbers_within, put_before, put_behind, put_part, put_put, put_there}
+use Rattle.wire.proofs.Numbers.{get_or_zeros, number_within, numbers_within}
 use Rattle.wire.proofs.Calls.{padded, same_call}
 
 -- the row by a kind, widths and numbers
 abbrev laid : ℕ → List ℕ → List ℕ → List ℕ
 laid kind ks ns = bytes_of 2 kind ++ (row ks ns ++ replicate (18 - width ks) 0)
 
--- a call that has a row is one of the first five
-pub early : (c : Call) → stored (meant c) ≡ true → call_number (meant c) < 5
-unfolding asks
-early (Open m r) h = omega arith
-early (Rate a r) h = omega arith
-early (Move v a b x) h = omega arith
-early (TakeBack k) h = omega arith
-early DayEnds h = omega arith
-early (Balance a d k) h = never h
-early (Statement a d e) h = never h
-early Sums h = never h
-early Taken h = never h
-
-row_laid : (c : Call) → stored (meant c) ≡ true → row_of call_row (meant c) ≡ laid (call_number (meant c) + 1) (call_widths (call_number (meant c) + 1)) (padded c)
+-- a call that has a row is one of the first five, and its row is laid by the byte that it begins with
+rowed : (c : Meant) → stored c ≡ true → (call_number c < 5) × (call_kind c ≡ call_number c + 1) × (row_of call_row c ≡ laid (call_number c + 1) (call_widths (call_number c + 1)) (padded c))
 unfolding asks row_of row call_kind call_numbers call_widths
-row_laid (Open m r) h = refl
-row_laid (Rate a r) h = refl
-row_laid (Move v a b x) h = refl
-row_laid (TakeBack k) h = refl
-row_laid DayEnds h = refl
-row_laid (Balance a d k) h = never h
-row_laid (Statement a d e) h = never h
-row_laid Sums h = never h
-row_laid Taken h = never h
+rowed (opens m r) h = (omega arith, refl, refl)
+rowed (rated a r) h = (omega arith, refl, refl)
+rowed (move v a b x) h = (omega arith, refl, refl)
+rowed (take_back k) h = (omega arith, refl, refl)
+rowed day_ends h = (omega arith, refl, refl)
+rowed (balance a d k) h = never h
+rowed (statement a d e) h = never h
+rowed sums h = never h
+rowed taken_so_far h = never h
+rowed (garbled k) h = never h
 
-pub row_is : (c : Call) (number : ℕ) (ks ns : List ℕ) → stored (meant c) ≡ true → number ≡ call_number (meant c) → ks ≡ call_widths (number + 1) → ns ≡ padded c → laid (number + 1) ks ns ≡ row_of call_row (meant c)
-row_is c number ks ns h n k f = let r = row_laid c h in cc
+pub early : (c : Meant) → stored c ≡ true → call_number c < 5
+early c h = (rowed c h).0
+
+pub row_is : (c : Meant) (number : ℕ) (ks ns : List ℕ) → stored c ≡ true → number ≡ call_number c → ks ≡ call_widths (number + 1) → ns ≡ padded c → laid (number + 1) ks ns ≡ row_of call_row c
+row_is c number ks ns h n k f = let r = (rowed c h).2 in cc
 
 -- the kind, the numbers and zeros, one behind another
 pub row_written : (block one two filled : List ℕ) (at end kind : ℕ) (ks ns : List ℕ) → at + 20 ≤ length block → width ks ≤ 18 →
@@ -62,14 +52,14 @@ row_written block one two filled at end kind ks ns room few p q e f =
     let k2 = length_bytes 2 kind in
     let kr = row_length ks ns in
     let kz : length zs ≡ 18 - width ks = length-replicate {A = ℕ} (18 - width ks) 0 in
-    let l1 : length one ≡ length block = ap length p ∙ length_put block (bytes_of 2 kind) at (omega arith) in
-    let l2 : length two ≡ length one = ap length q ∙ length_put one (row ks ns) (at + 2) (omega arith) in
+    let l1 : length one ≡ length block = ap length p ∙ with_length at (bytes_of 2 kind) block (omega arith) in
+    let l2 : length two ≡ length one = ap length q ∙ with_length (at + 2) (row ks ns) one (omega arith) in
     let left : length (take (at + 20 - end) (drop end two)) ≡ 18 - width ks = simp (length-take, length-drop) (omega arith) in
     let both : two ≡ with_bytes block at (bytes_of 2 kind ++ row ks ns) =
-    q ∙ ap (λ x. with_bytes x (at + 2) (row ks ns)) p ∙ put_put block (bytes_of 2 kind) (row ks ns) at (at + 2) (omega arith) (omega arith) in
-    put_part end (at + 20) two filled zs (f ∙ ap (λ k. replicate k 0) left) (omega arith)
+    q ∙ ap (λ x. with_bytes x (at + 2) (row ks ns)) p ∙ with_more block (bytes_of 2 kind) (row ks ns) at (at + 2) (omega arith) (omega arith) in
+    part_written end (at + 20) (18 - width ks) filled zs two (omega arith) kz (f ∙ ap (λ k. replicate k 0) left)
     ∙ ap (λ x. with_bytes x end zs) both
-    ∙ put_put block (bytes_of 2 kind ++ row ks ns) zs at end (simp length-append (omega arith)) (omega arith)
+    ∙ with_more block (bytes_of 2 kind ++ row ks ns) zs at end (simp length-append (omega arith)) (omega arith)
     ∙ ap (with_bytes block at) (append_assoc (bytes_of 2 kind) (row ks ns) zs)
 
 -- the call of a row by the table of all calls
@@ -96,17 +86,7 @@ row_read block ks ns at kind m e h l w n =
 
 -- a kind that there is
 kind_there : (c : Meant) → stored c ≡ true → (1 ≤ call_kind c) × (call_kind c ≤ 5)
-unfolding asks call_kind
-kind_there (opens m r) h = (omega arith, omega arith)
-kind_there (rated a r) h = (omega arith, omega arith)
-kind_there (move v a b x) h = (omega arith, omega arith)
-kind_there (take_back k) h = (omega arith, omega arith)
-kind_there day_ends h = (omega arith, omega arith)
-kind_there (balance a d k) h = never h
-kind_there (statement a d e) h = never h
-kind_there sums h = never h
-kind_there taken_so_far h = never h
-kind_there (garbled k) h = never h
+kind_there c h = let r = rowed c h in (omega (arith, r.1), omega (arith, r.0, r.1))
 
 kind_first : (c : Meant) (rest : List ℕ) → stored c ≡ true → number_of 2 (row_of call_row c ++ rest) ≡ call_kind c
 unfolding row_of
@@ -117,7 +97,7 @@ kind_first c rest h =
 pub remembers : Remembers
 remembers bs at c room h =
     let rest : List ℕ = drop (at + length (row_of call_row c)) bs in
-    let there : drop at (with_bytes bs at (row_of call_row c)) ≡ row_of call_row c ++ rest = put_there bs (row_of call_row c) at (omega arith) in
+    let there : drop at (with_bytes bs at (row_of call_row c)) ≡ row_of call_row c ++ rest = with_there at (row_of call_row c) bs (omega (arith, row_of_length call_row c (call_fits c h))) in
     let kind : kind_at (with_bytes bs at (row_of call_row c)) at ≡ call_kind c = ap (number_of 2) there ∙ kind_first c rest h in
     let k = kind_there c h in
     (ap (thing_in call_row) there ∙ row_of_back call_row c rest (call_fits c h) (call_back c h), omega arith, omega arith)
@@ -144,7 +124,7 @@ apart bs at i c room h where-else =
     let ys : List ℕ = row_of call_row c in
     let long : length ys ≡ 20 = row_of_length call_row c (call_fits c h) in
     let same : take 20 (drop i (with_bytes bs at ys)) ≡ take 20 (drop i bs) =
-    elim where-else [ inl b ↦ put_before bs ys at i 20 (omega arith) b | inr b ↦ ap (take 20) (put_behind bs ys at i (omega arith) (omega arith)) ] in (
+    elim where-else [ inl b ↦ with_before at ys bs (omega arith) i 20 b | inr b ↦ ap (take 20) (with_rest at ys bs (omega arith) i (omega arith)) ] in (
       same,
       sym (number_within 2 20 (drop i (with_bytes bs at ys)) (omega arith)) ∙ ap (number_of 2) same ∙ number_within 2 20 (drop i bs) (omega arith),
       sym (thing_within (drop i (with_bytes bs at ys))) ∙ ap (thing_in call_row) same ∙ thing_within (drop i bs),

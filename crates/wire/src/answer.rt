@@ -17,7 +17,7 @@ use crate::booking::{Booking, mark_number};
 use crate::bytes::{eights, put_form, put_numbers, write_form};
 
 // `Lines` is followed by as many bookings as it says.
-#[derive(Clone, Copy)]
+#[derive(Clone, Copy, Debug, PartialEq, Eq)]
 pub enum Answer {
     Refused { reason: u64, place: u64 },
     Number(u64),
@@ -75,7 +75,7 @@ pub fn write_booking(out: &mut [u8], at: usize, booking: Booking) -> usize
         booking.from as u64,
         booking.to as u64,
         booking.amount,
-        booking.kind.number() as u64,
+        u32::from(booking.kind) as u64,
         mark_number(booking.back),
     ];
     put_numbers(out, at, eights(7), &numbers)

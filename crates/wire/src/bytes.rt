@@ -23,6 +23,8 @@ pub fn put_number(out: &mut [u8], at: usize, wide: usize, n: u64)
 }
 
 // The numbers that stand one behind another from `at` on, by a list of widths; zeros behind them.
+// The widths are a bare slice: with a struct that says `narrow`, clauses would read `widths.entry.each.now` for `widths.now`, here and in `put_numbers`.
+// The numbers stand in an array, since nothing is allocated, and are written by index: a proof knows nothing of what is written through a zipped `iter_mut`.
 pub fn numbers_at(bytes: &[u8], at: usize, widths: &[usize]) -> [u64; 8]
     requires room { at + width widths.now ≤ length bytes.now }
     requires few { (length widths.now ≤ 8) × (narrow widths.now ≡ true) }
@@ -30,9 +32,9 @@ pub fn numbers_at(bytes: &[u8], at: usize, widths: &[usize]) -> [u64; 8]
 {
     let mut ns = [0; 8];
     let mut end = at;
-    for (i, wide) in widths.iter().enumerate() {
-        ns[i] = number_at(bytes, end, *wide);
-        end += *wide;
+    for (i, &wide) in widths.iter().enumerate() {
+        ns[i] = number_at(bytes, end, wide);
+        end += wide;
     }
     ns
 }
@@ -45,9 +47,9 @@ pub fn put_numbers(out: &mut [u8], at: usize, widths: &[usize], ns: &[u64]) -> u
     ensures end { result ≡ at + width widths.now }
 {
     let mut end = at;
-    for (i, wide) in widths.iter().enumerate() {
-        put_number(out, end, *wide, ns[i]);
-        end += *wide;
+    for (&wide, &n) in widths.iter().zip(ns) {
+        put_number(out, end, wide, n);
+        end += wide;
     }
     end
 }
@@ -62,7 +64,7 @@ pub(crate) fn eights(count: usize) -> &'static [usize]
 }
 
 // Writes a byte and numbers of eight bytes each at the beginning of `out`; says where they end.
-pub(crate) fn put_form(out: &mut [u8], number: u8, ns: &[u64]) -> usize
+pub fn put_form(out: &mut [u8], number: u8, ns: &[u64]) -> usize
     requires { (length ns.now ≤ 8) × (1 + 8 * length ns.now ≤ length out.old) }
     ensures after { out.new ≡ with_bytes out.old 0 (form number ns.now) }
     ensures end { result ≡ 1 + 8 * length ns.now }

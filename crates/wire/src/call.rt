@@ -21,7 +21,7 @@ use crate::bytes::{eights, numbers_at, write_form};
 // How many numbers follow the byte that a call begins with.
 const FIELDS: [usize; 9] = [2, 2, 4, 1, 0, 3, 3, 0, 0];
 
-#[derive(Clone, Copy)]
+#[derive(Clone, Copy, Debug, PartialEq, Eq)]
 pub enum Call {
     Open {
         limit: u64,
@@ -74,6 +74,7 @@ impl Call {
     }
 
     // The numbers that follow it, and zeros behind them.
+    // An array, since nothing is allocated; how many they are `FIELDS` says by the byte alone, since a reader has no call yet.
     pub(crate) fn fields(self) -> [u64; 4]
         ensures { result ≡ call_fields (meant self) ++ replicate (4 - length (call_fields (meant self))) 0 }
     {
@@ -143,33 +144,28 @@ impl Call {
 pub fn read_first(bytes: &[u8]) -> Result<(Call, &[u8]), usize>
     ensures { elim result [ Ok p ↦ first_call bytes.now ≡ begins (meant p.0) p.1.now | Err k ↦ first_call bytes.now ≡ fails k ] }
 {
-    let Some((number, rest)) = bytes.split_first() else {
+    let Some((&number, rest)) = bytes.split_first() else {
         return Err(0);
     };
-    if *number > 8 {
+    let Some(&count) = FIELDS.get(number as usize) else {
         return Err(0);
-    }
-    let count = FIELDS[*number as usize];
+    };
     if rest.len() < 8 * count {
         return Err(bytes.len());
     }
     let fields = numbers_at(rest, 0, eights(count));
-    Ok((Call::from_fields(*number, &fields), &rest[8 * count..]))
+    Ok((Call::from_fields(number, &fields), &rest[8 * count..]))
 }
 
 // The call that a row of bytes is, or the first byte that does not fit.
 pub fn read_call(bytes: &[u8]) -> Result<Call, usize>
     ensures { received result ≡ read_call_lem bytes.now }
 {
-    match read_first(bytes) {
-        Ok((call, rest)) => {
-            if rest.len() > 0 {
-                return Err(bytes.len() - rest.len());
-            }
-            Ok(call)
-        }
-        Err(place) => Err(place),
+    let (call, rest) = read_first(bytes)?;
+    if !rest.is_empty() {
+        return Err(bytes.len() - rest.len());
     }
+    Ok(call)
 }
 
 // Writes the row of a call if there is room, and says how many bytes it has.

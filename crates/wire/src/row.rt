@@ -25,6 +25,7 @@ pub const ROW: usize = 20;
 const KIND: usize = 2;
 
 // How wide the numbers of a kind are.
+#[tactic(auto, unfolding(model::specs::JournalBlock::call_widths))]
 fn widths(kind: u64) -> &'static [usize]
     requires { kind ≤ 5 }
     ensures is { result.now ≡ call_widths kind }

@@ -2,12 +2,11 @@
 ghost use Rattle.std.specs.Prelude.{◌≤◌};
 
 use std::process::Abort;
-use std::test::Fail;
 use wire::answer::{Answer, most_answer, write_answer, write_booking};
 use wire::booking::{Booking, Kind};
 
 // An answer without bookings is written so, with nothing behind it changed, and not into a byte less.
-fn check_answer(rt: &impl Abort, answer: Answer, row: &[u8]) -> Result<(), Fail> {
+fn check_answer(rt: &impl Abort, answer: Answer, row: &[u8]) {
     let mut out = [0xff; 18];
     assert!(rt; 0 < row.len() && row.len() <= 18);
     assert_eq!(rt; write_answer(&mut out[0..row.len() - 1], answer), None);
@@ -15,22 +14,16 @@ fn check_answer(rt: &impl Abort, answer: Answer, row: &[u8]) -> Result<(), Fail>
     assert_eq!(rt; write_answer(&mut out, answer), Some(row.len()));
     assert_eq!(rt; &out[0..row.len()], row);
     assert_eq!(rt; &out[row.len()..18], &[0xff; 18][row.len()..18]);
-    Ok(())
-}
-
-fn check_bytes(rt: &impl Abort, bytes: &[u8], row: &[u8]) -> Result<(), Fail> {
-    assert_eq!(rt; bytes, row);
-    Ok(())
 }
 
 #[test]
-fn rows_of_answers(rt: HostRuntime) -> Result<(), Fail> {
+fn rows_of_answers(rt: HostRuntime) {
     let refused = Answer::Refused {
         reason: 7,
         place: 1,
     };
-    check_answer(&rt, refused, b"\x00\x07\0\0\0\0\0\0\0\x01\0\0\0\0\0\0\0")?;
-    check_answer(&rt, Answer::Number(258), b"\x01\x02\x01\0\0\0\0\0\0")?;
+    check_answer(&rt, refused, b"\x00\x07\0\0\0\0\0\0\0\x01\0\0\0\0\0\0\0");
+    check_answer(&rt, Answer::Number(258), b"\x01\x02\x01\0\0\0\0\0\0");
     let sums = Answer::Amounts {
         came: 1_000_000,
         left: 400_000,
@@ -39,11 +32,11 @@ fn rows_of_answers(rt: HostRuntime) -> Result<(), Fail> {
         &rt,
         sums,
         b"\x02\x40\x42\x0f\0\0\0\0\0\x80\x1a\x06\0\0\0\0\0",
-    )
+    );
 }
 
 // So many bookings have no room in so many bytes, and nothing is changed.
-fn no_room(rt: &impl Abort, count: u64, room: usize) -> Result<(), Fail>
+fn no_room(rt: &impl Abort, count: u64, room: usize)
     requires { room ≤ 66 }
 {
     let mut out = [0xff; 66];
@@ -52,15 +45,14 @@ fn no_room(rt: &impl Abort, count: u64, room: usize) -> Result<(), Fail>
         None
     );
     assert_eq!(rt; out, [0xff; 66]);
-    Ok(())
 }
 
 #[test]
-fn a_statement(rt: HostRuntime) -> Result<(), Fail> {
-    no_room(&rt, 0, 8)?;
-    no_room(&rt, 1, 64)?;
-    no_room(&rt, 2, 66)?;
-    no_room(&rt, u64::MAX, 66)?;
+fn a_statement(rt: HostRuntime) {
+    no_room(&rt, 0, 8);
+    no_room(&rt, 1, 64);
+    no_room(&rt, 2, 66);
+    no_room(&rt, u64::MAX, 66);
     let mut out = [0xff; 66];
     assert_eq!(rt; write_answer(&mut out, Answer::Lines { count: 1 }), Some(9));
     let booking = Booking {
@@ -73,11 +65,20 @@ fn a_statement(rt: HostRuntime) -> Result<(), Fail> {
         back: Some(255),
     };
     assert_eq!(rt; write_booking(&mut out, 9, booking), 65);
-    check_bytes(&rt, &out[0..9], b"\x03\x01\0\0\0\0\0\0\0")?;
-    check_bytes(&rt, &out[9..25], b"\x3c\0\0\0\0\0\0\0\x3b\0\0\0\0\0\0\0")?;
-    check_bytes(&rt, &out[25..41], b"\x01\0\0\0\0\0\0\0\x02\0\0\0\0\0\0\0")?;
-    check_bytes(&rt, &out[41..57], b"\x08\x07\0\0\0\0\0\0\x01\0\0\0\0\0\0\0")?;
-    check_bytes(&rt, &out[57..66], b"\0\x01\0\0\0\0\0\0\xff")
+    assert_eq!(rt; &out[0..9], b"\x03\x01\0\0\0\0\0\0\0".as_slice());
+    assert_eq!(rt;
+        &out[9..25],
+        b"\x3c\0\0\0\0\0\0\0\x3b\0\0\0\0\0\0\0".as_slice()
+    );
+    assert_eq!(rt;
+        &out[25..41],
+        b"\x01\0\0\0\0\0\0\0\x02\0\0\0\0\0\0\0".as_slice()
+    );
+    assert_eq!(rt;
+        &out[41..57],
+        b"\x08\x07\0\0\0\0\0\0\x01\0\0\0\0\0\0\0".as_slice()
+    );
+    assert_eq!(rt; &out[57..66], b"\0\x01\0\0\0\0\0\0\xff".as_slice());
 }
 
 #[test]

@@ -4,7 +4,6 @@ ghost use Rattle.model.specs.JournalBlock.{stored};
 ghost use Rattle.wire.specs.Meaning.{meant};
 
 use std::process::Abort;
-use std::test::Fail;
 use wire::call::Call;
 use wire::row::{read_row, write_row};
 
@@ -18,26 +17,10 @@ fn written(call: Call) -> [u8; 40]
 }
 
 // The bytes around a row are as they were, and the row's are these.
-fn check_block(rt: &impl Abort, block: [u8; 40], row: &[u8]) -> Result<(), Fail> {
+fn check_block(rt: &impl Abort, block: [u8; 40], row: &[u8]) {
     assert_eq!(rt; &block[0..10], &[0xff; 10][0..10]);
     assert_eq!(rt; &block[10..30], row);
     assert_eq!(rt; &block[30..40], &[0xff; 10][0..10]);
-    Ok(())
-}
-
-// The numbers of the move whose row stands there, in their order; none where another or no row does.
-fn move_in(block: &[u8; 40]) -> Option<(u64, u64, u64, u64)> {
-    match read_row(block, 10) {
-        Some(
-            Call::Move {
-                value,
-                from,
-                to,
-                amount,
-            },
-        ) => Some((value, from, to, amount)),
-        _ => None,
-    }
 }
 
 // Is there a row in bytes that are all the same but for the kind?
@@ -45,14 +28,13 @@ fn held(kind: u8, high: u8, others: u8) -> bool {
     let mut block = [others; 30];
     block[7] = kind;
     block[8] = high;
-    match read_row(&block, 7) {
-        Some(_) => true,
-        None => false,
-    }
+    read_row(&block, 7).is_some()
 }
 
+// That each of these calls has a row is computed.
+#[tactic(auto, unfolding(bank::specs::Promise::asks, device::specs::Rows::fits_in, model::specs::JournalBlock::call_kind, model::specs::JournalBlock::call_numbers, model::specs::JournalBlock::call_widths))]
 #[test]
-fn rows_of_taken_calls(rt: HostRuntime) -> Result<(), Fail> {
+fn rows_of_taken_calls(rt: HostRuntime) {
     let open = Call::Open {
         limit: 5000,
         rate: 365,
@@ -61,7 +43,7 @@ fn rows_of_taken_calls(rt: HostRuntime) -> Result<(), Fail> {
         &rt,
         written(open),
         b"\x01\0\x88\x13\0\0\0\0\0\0\x6d\x01\0\0\0\0\0\0\0\0",
-    )?;
+    );
     let order = Call::Move {
         value: 3650,
         from: 4095,
@@ -73,13 +55,13 @@ fn rows_of_taken_calls(rt: HostRuntime) -> Result<(), Fail> {
         &rt,
         block,
         b"\x03\0\x42\x0e\xff\x0f\x02\0\0\xe8\x76\x48\x17\0\0\0\0\0\0\0",
-    )?;
-    assert_eq!(rt; move_in(&block), Some((3650, 4095, 2, 100_000_000_000)));
+    );
+    assert_eq!(rt; read_row(&block, 10), Some(order));
     check_block(
         &rt,
         written(Call::TakeBack { booking: 999_999 }),
         b"\x04\0\x3f\x42\x0f\0\0\0\0\0\0\0\0\0\0\0\0\0\0\0",
-    )
+    );
 }
 
 #[test]

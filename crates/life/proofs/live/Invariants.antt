@@ -2,20 +2,18 @@ use Rattle.std.proofs.Common.{◌≡◌, ◌-◌, ◌*◌, ◌<◌, ◌≤◌, l
 use Rattle.device.specs.Device.{acts}
 use Rattle.model.specs.First.{first_program}
 use Rattle.ledger.specs.Meaning.{limits}
-use Rattle.sim.specs.Sims.{Sound, room}
-use Rattle.session.specs.Session.{memory, Ready}
-use Rattle.life.specs.Life.{world, after_acts, Listens, Behind, free_in, rows_read}
+use Rattle.session.specs.Session.{memory}
+use Rattle.life.specs.Heard.{rows_read, free_in}
+use Rattle.life.specs.Life.{world, after_acts, Stays}
 use Rattle.life.proofs.live.Given as goal
 
 -- what is left of the life gives what the whole life gives
 abbrev pub invariant-loop-row : goal.invariant-loop-row
-invariant-loop-row l =
-    (after_acts (world l.image l.unflushed l.said l.heard) (take l.left (acts (first_program (limits l.initial.session.ledger)) (memory l.session) (drop l.row-index (rows_read l.calls))))
-    ≡ after_acts (world l.initial.image l.initial.unflushed l.initial.said l.initial.heard) (take l.budget (acts (first_program (limits l.initial.session.ledger)) (memory l.initial.session) (rows_read l.calls))))
-    × Ready l.session
-    × (limits l.session.ledger ≡ limits l.initial.session.ledger)
-    × Sound l.image l.unflushed
-    × Listens l.said l.heard
-    × Behind l.initial.said l.initial.heard l.said l.heard
-    × (room l.unflushed ≡ room l.initial.unflushed)
-    × (0 < l.left → (l.unflushed.count ≡ 0) × (17 * (length l.calls - l.row-index) ≤ free_in l.said l.heard))
+invariant-loop-row l = record {
+  world :
+      after_acts (world l.disk l.listener) (take l.left (acts (first_program (limits l.initial.session.book.ledger)) (memory l.session) (drop l.row-index (rows_read l.calls))))
+      ≡ after_acts (world l.initial.disk l.initial.listener) (take l.budget (acts (first_program (limits l.initial.session.book.ledger)) (memory l.initial.session) (rows_read l.calls)));
+  limits_stay : limits l.session.book.ledger ≡ limits l.initial.session.book.ledger;
+  stays : Stays l.initial.disk l.disk l.initial.listener l.listener;
+  rests : 0 < l.left → (l.disk.count ≡ 0) × (17 * (length l.calls - l.row-index) ≤ free_in l.listener.said.now l.listener.heard);
+}

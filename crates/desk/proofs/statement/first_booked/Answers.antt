@@ -1,10 +1,20 @@
-use Rattle.std.proofs.Common.{ap, arith}
-use Rattle.bank.specs.Book.{Booking}
+use Rattle.std.proofs.Common.{◌≤◌, length, ltb, ap, ◌∙◌, arith, rules}
+use Rattle.std.proofs.lemmas.List.{length-map}
+use Rattle.std.proofs.lemmas.Fn.{always_returns_same}
+use Rattle.std.proofs.lemmas.List.Sorted.{IsPartitionedBy-ltb}
 use Rattle.ledger.specs.Meaning.{bank}
-use Rattle.desk.proofs.Lines.{kept_order, search_up}
+use Rattle.desk.proofs.Lines.{booked_in_order, days_rise, point_before, point_from}
 use Rattle.desk.proofs.statement.first_booked.Goals as goal
 
-pub loop-low-preserved-then-booking-day : goal.loop-low-preserved-then-booking-day
-loop-low-preserved-then-booking-day c =
-    search_up (bank c.args.ledger.now) (kept_order c.args.ledger.now c.requires) c.args.day c.loop-low.low c.loop-low.high _ c.loop-low.invariant (omega arith)
-    (omega (arith, ap (λ (b : Booking). b.on) c.booking.ensures))
+pub returns : goal.returns
+returns c =
+    let n = bank c.args.book.now.ledger in
+    let e = c.booked_days.ensures in
+    let parted = IsPartitionedBy-ltb (λ x. x) c.booked_days.result.now c.args.day (rw e (days_rise n (booked_in_order c.args.book.now))) in
+    let point = c.partition_point.ensures.partitioned (λ x. ltb x c.args.day) (always_returns_same _ _ _ (λ a r q k. search rules)) parted in
+    let within : c.partition_point.result ≤ length n.bookings = omega (arith, c.partition_point.ensures.bound, ap (λ xs. length xs) e ∙ length-map n.bookings (λ b. b.on)) in
+    record {
+      within = within;
+      before = point_before n c.args.day _ within (rw e at point);
+      from = point_from n c.args.day _ within (rw e at point);
+    }

@@ -4,8 +4,8 @@ use Rattle.device.specs.Rows.{thing_in, rows_in}
 use Rattle.model.specs.JournalBlock.{call_row}
 use Rattle.wire.specs.declared.call.Call.{Call}
 use Rattle.wire.specs.JournalRow.{RowAt}
-use Rattle.journal.specs.Recovery.{RowOf}
-use Rattle.journal.proofs.Accepts.{row_in}
+use Rattle.journal.specs.Blocks.{RowOf}
+use Rattle.journal.proofs.Rows.{row_in}
 use Rattle.journal.proofs.journal.row_at.Goals as goal
 
 of_row : (bs : List ℕ) (i : ℕ) (r : Option Call) → RowAt bs (32 + 20 * i) r → RowOf bs i r

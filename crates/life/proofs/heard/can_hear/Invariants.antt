@@ -1,6 +1,6 @@
 use Rattle.std.proofs.Common.{◌≡◌, ◌+◌, ◌*◌, length, drop}
 use Rattle.bank.specs.Promise.{all_readable}
-use Rattle.life.specs.Life.{rows_read}
+use Rattle.life.specs.Heard.{rows_read}
 use Rattle.life.proofs.heard.can_hear.Given as goal
 
 -- the rows so far can be read, and 17 bytes were taken off for each

@@ -1,18 +1,23 @@
-use Rattle.std.proofs.Common.{length, ap, arith}
-use Rattle.text.specs.Words.{words}
-use Rattle.text.proofs.Counts.{few_words, form_found, form_none, form_passed}
+use Rattle.std.proofs.Common.{◌≤◌, length, Some, rules, ◌∙◌, refl}
+use Rattle.std.proofs.lemmas.Iterator.{YieldsList-from_slice}
+use Rattle.std.proofs.lemmas.Iterator.Consumers.{YieldsList-at, YieldsList-from_enumerate}
+use Rattle.text.specs.Words.{words, words_on}
+use Rattle.text.specs.Lines.{by_forms, followed, form_numbers}
+use Rattle.text.proofs.FindMap.{first_found, serves_all}
 use Rattle.text.proofs.line.in_words.Goals as goal
 
-pub numbers_by-requires : goal.numbers_by-requires
-numbers_by-requires c = omega (arith, few_words c.loop-number.number, ap (λ f. length (words f)) c.form.ensures)
-
-pub returns-in-Some : goal.returns-in-Some
-returns-in-Some c =
-    form_found _ c.loop-number.number (words c.args.line.now) c.loop-number.invariant c.form.result.now c.loop-number-test.true c.form.ensures c.in-Some.numbers c.in-Some.ensures
-
-pub loop-number-preserved : goal.loop-number-preserved
-loop-number-preserved c =
-    form_passed _ c.loop-number.number (words c.args.line.now) c.loop-number.invariant c.form.result.now c.loop-number-test.true c.form.ensures c.in_default.ensures
+pub find_map-requires-clause-callable : goal.find_map-requires-clause-callable
+unfolding words_on
+find_map-requires-clause-callable c =
+    serves_all (λ p. length (words p.1.now) ≤ 8)
+    (YieldsList-from_enumerate (YieldsList-at c.enumerate.ensures.source (YieldsList-from_slice _ c.iter.ensures.rest)) c.enumerate.ensures.count)
+    (search rules) (λ x q k. search rules) (λ x few. search rules)
 
 pub returns : goal.returns
-returns c = form_none _ c.loop-number.number (words c.args.line.now) c.loop-number.invariant c.loop-number-test.false
+unfolding by_forms
+returns c =
+    first_found _ _ _ (λ ns. ns.items) (λ p. followed (Some p.0) (form_numbers (words p.1.now) (words c.args.line.now))) (λ x o q k. search rules)
+    c.find_map.result c.find_map.new.self
+    (YieldsList-from_enumerate (YieldsList-at c.enumerate.ensures.source (YieldsList-from_slice _ c.iter.ensures.rest)) c.enumerate.ensures.count)
+    c.find_map.ensures.ran c.find_map.ensures.runs
+    ∙ refl

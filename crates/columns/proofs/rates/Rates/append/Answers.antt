@@ -4,5 +4,5 @@ use Rattle.columns.proofs.rates.Rates.append.Goals as goal
 
 pub returns : goal.returns
 returns c =
-    put_rate_added c.args.self.now _ _ c.requires.rated.0 c.requires.rated.1 c.requires.space
+    put_rate_added c.args.self.now _ _ c.requires.space
     (record { account = refl; since = refl; rate = refl; count = refl; capacity = refl })

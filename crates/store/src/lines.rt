@@ -1,0 +1,38 @@
+// What the programs read and print: lines of calls as rows of bytes, and answers as lines.
+use anyhow::anyhow;
+use std::alloc::{AllocError, Global};
+use text::answer::write_answer_line;
+use text::line::{LONGEST, read_line};
+
+// The row of bytes that a line stands for; one that stands for none is as a row of no bytes.
+pub fn row_of(heap: Global, line: &str) -> Result<Vec<u8>, AllocError> {
+    let mut row = [0; LONGEST];
+    let n = read_line(line.as_bytes(), &mut row).unwrap_or(0);
+    row[..n].to_vec(heap)
+}
+
+// Prints the answer that some bytes are.
+pub fn say(rt: &HostRuntime, answer: &[u8]) -> anyhow::Result<()> {
+    let line = write_answer_line(rt.alloc(), answer)?;
+    println!(rt; "{line}")?;
+    Ok(())
+}
+
+// How many bytes an answer has that no bookings follow, by its first: behind it stands one number, or two.
+fn answer_length(first: u8) -> usize {
+    if first == 1 { 9 } else { 17 }
+}
+
+// Prints answers that stand one behind another, and that no bookings follow.
+pub fn say_all(rt: &HostRuntime, said: &[u8], answers: usize) -> anyhow::Result<()> {
+    let mut rest = said;
+    for _ in 0..answers {
+        let Some(first) = rest.first() else {
+            return Err(anyhow!("an answer without bytes"));
+        };
+        let (answer, behind) = rest.split_at(answer_length(*first).min(rest.len()));
+        say(rt, answer)?;
+        rest = behind;
+    }
+    Ok(())
+}
