@@ -2,7 +2,7 @@
 use Rattle.std.proofs.Common.{◌≡◌, ℕ, ◌+◌, ◌-◌, ◌*◌, ◌≤◌, List, ◌++◌, length, take, drop, replicate, sym, ap, ◌∙◌, inl, inr, arith}
 use mathlib.Core.Path.{fun_ext}
 use Rattle.std.proofs.lemmas.Bool.{cases_eq, cases_lt, eq-eqb, ne_eqb}
-use Rattle.std.proofs.lemmas.List.{length-take, length-drop, length-append, take-append-le, drop_all}
+use Rattle.std.proofs.lemmas.List.{length-take, length-drop, length-append, take-append-le}
 use lib.ListN.{length-replicate}
 use Rattle.device.specs.Device.{put, pick}
 use Rattle.blocks.specs.Blocks.{block, put_block, device_of}
@@ -12,20 +12,11 @@ use Rattle.device.proofs.Parts.{with_length, with_rest, with_same, with_before}
 pub block_read : (k : ℕ) (bytes : List ℕ) → take (512 * k + 512 - 512 * k) (drop (512 * k) bytes) ≡ block k bytes
 block_read k bytes = let n : 512 * k + 512 - 512 * k ≡ 512 = omega arith in rw n
 
--- a block that is there
-pub length_block : (k : ℕ) (bytes : List ℕ) → 512 * k + 512 ≤ length bytes → length (block k bytes) ≡ 512
-length_block k bytes room = simp (length-take, length-drop) (omega arith)
-
 pub device_block : (k : ℕ) (bytes : List ℕ) → 512 * k + 512 ≤ length bytes → device_of bytes k ≡ block k bytes
 unfolding device_of
 device_block k bytes room =
     let l : 512 ≤ length (drop (512 * k) bytes) = simp length-drop (omega arith) in
     take-append-le 512 (drop (512 * k) bytes) (replicate 512 0) l
-
--- a block behind the end
-pub device_past : (k : ℕ) (bytes : List ℕ) → length bytes ≤ 512 * k → device_of bytes k ≡ replicate 512 0
-unfolding device_of
-device_past k bytes past = ap (λ r. take 512 (r ++ replicate 512 0)) (drop_all (512 * k) bytes past)
 
 -- every block of it is whole
 pub device_whole : (bytes : List ℕ) (k : ℕ) → length (device_of bytes k) ≡ 512

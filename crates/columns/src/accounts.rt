@@ -36,13 +36,13 @@ pub struct Accounts<'a> {
     count: usize,
     capacity: usize,
     // the till and the bank's own account are there
-    ghost two: { 2 ≤ count },
-    ghost within: { count ≤ capacity },
-    ghost few: { capacity ≤ 4096 },
-    ghost limit_room: { capacity ≤ length limit.now },
-    ghost came_room: { capacity ≤ length came.now },
-    ghost left_room: { capacity ≤ length left.now },
-    ghost ordered_room: { capacity ≤ length ordered.now },
+    pub ghost two: { 2 ≤ count },
+    pub ghost within: { count ≤ capacity },
+    pub ghost few: { capacity ≤ 4096 },
+    pub ghost limit_room: { capacity ≤ length limit.now },
+    pub ghost came_room: { capacity ≤ length came.now },
+    pub ghost left_room: { capacity ≤ length left.now },
+    pub ghost ordered_room: { capacity ≤ length ordered.now },
 }
 
 // Clears the cells of the first two accounts.

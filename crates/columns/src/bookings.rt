@@ -16,17 +16,17 @@ pub struct Bookings<'a> {
     back: &'a mut [u32],
     count: usize,
     capacity: usize,
-    ghost within: { count ≤ capacity },
-    ghost few: { capacity ≤ 1000000 },
-    ghost on_room: { capacity ≤ length on.now },
-    ghost value_room: { capacity ≤ length value.now },
-    ghost from_room: { capacity ≤ length from.now },
-    ghost to_room: { capacity ≤ length to.now },
-    ghost amount_room: { capacity ≤ length amount.now },
-    ghost kind_room: { capacity ≤ length kind.now },
-    ghost back_room: { capacity ≤ length back.now },
+    pub ghost within: { count ≤ capacity },
+    pub ghost few: { capacity ≤ 1000000 },
+    pub ghost on_room: { capacity ≤ length on.now },
+    pub ghost value_room: { capacity ≤ length value.now },
+    pub ghost from_room: { capacity ≤ length from.now },
+    pub ghost to_room: { capacity ≤ length to.now },
+    pub ghost amount_room: { capacity ≤ length amount.now },
+    pub ghost kind_room: { capacity ≤ length kind.now },
+    pub ghost back_room: { capacity ≤ length back.now },
     // no sum of amounts passes 2 ^ 62
-    ghost small: { (i : ℕ) → i < count → slice_index amount.now i ≤ 4000000000000 },
+    pub ghost small: { (i : ℕ) → i < count → slice_index amount.now i ≤ 4000000000000 },
 }
 
 impl<'a> Bookings<'a> {

@@ -89,7 +89,7 @@ impl Side for Outgoing {
     }
 }
 
-// The booking that a cell links to.
+// The booking that a cell links to. No `From`: both types are the library's.
 fn link_in(cell: u32) -> Option<usize>
     ensures { link_of result ≡ cell }
 {

@@ -17,11 +17,11 @@ pub struct Rates<'a> {
     rate: &'a mut [u32],
     count: usize,
     capacity: usize,
-    ghost within: { count ≤ capacity },
-    ghost few: { capacity ≤ 16384 },
-    ghost account_room: { capacity ≤ length account.now },
-    ghost since_room: { capacity ≤ length since.now },
-    ghost rate_room: { capacity ≤ length rate.now },
+    pub ghost within: { count ≤ capacity },
+    pub ghost few: { capacity ≤ 16384 },
+    pub ghost account_room: { capacity ≤ length account.now },
+    pub ghost since_room: { capacity ≤ length since.now },
+    pub ghost rate_room: { capacity ≤ length rate.now },
 }
 
 impl<'a> Rates<'a> {

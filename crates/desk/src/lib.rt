@@ -1,4 +1,5 @@
-// Taking a call, or turning it away: the refusal list in its order, then the change and its answer.
+// Taking a call, or turning it away: the refusal list in its order, then the change and its answer. Each check hands on its value, or its refusal is returned, by
+// `let .. else`: all checks of this crate have that one form.
 #![tactic(auto)]
 
 ghost use Rattle.std.specs.Prelude.{◌≡◌, true, []};

@@ -1,5 +1,9 @@
 // Opening a book on which calls can be taken.
+ghost use Rattle.std.specs.Prelude.{◌≡◌, true};
+ghost use Rattle.bank.specs.Promise.{allowed};
+ghost use Rattle.model.specs.Whole.{ReachedRegister};
 ghost use Rattle.columns.specs.Sizes.{limits_of};
+ghost use Rattle.ledger.specs.Meaning.{limits, register};
 ghost use Rattle.ledger.specs.Opened.{Opened};
 ghost use Rattle.desk.specs.Opening.{ledger_of};
 
@@ -19,5 +23,21 @@ impl<'a> Book<'a> {
     {
         let ledger = Ledger::open(limits, cents, numbers)?;
         Ok(Book { ledger })
+    }
+
+    // The book of a ledger that calls brought about, under limits that may be given.
+    pub fn of(ledger: Ledger<'a>) -> Book<'a>
+        requires allows { allowed (limits ledger) ≡ true }
+        requires reached { ∥ ReachedRegister (limits ledger) (register ledger) ∥₁ }
+        ensures { result.ledger ≡ ledger.entry }
+    {
+        Book { ledger }
+    }
+
+    // Its ledger, to be gone on with.
+    pub fn into_ledger(self) -> Ledger<'a>
+        ensures { result ≡ self.entry.ledger }
+    {
+        self.ledger
     }
 }

@@ -19,6 +19,7 @@ ghost use Rattle.desk.specs.Refusals.{turned_away};
 
 use wire::answer::Answer;
 
+// Why a call is turned away.
 #[derive(Clone, Copy, Debug, PartialEq, Eq)]
 pub enum Refusal {
     NotYet,

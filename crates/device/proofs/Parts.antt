@@ -40,10 +40,6 @@ with_more xs ys zs at e s h =
     rw (← append_assoc (take at xs) ys (drop (at + length ys) xs), s, ← drop-drop (length zs) e, take_at (take at xs ++ ys) (drop e xs) e l, drop_at (take at xs ++ ys) (drop e xs) e l)
     (simp (append_assoc, drop-drop, length-append, ← s, add_assoc) refl)
 
--- a part as code hands it on, from its start to its end
-pub part_read : (at end n : ℕ) (xs : List ℕ) → end ≡ at + n → take (end - at) (drop at xs) ≡ take n (drop at xs)
-part_read at end n xs s = let m : end - at ≡ n = omega arith in ap (λ k. take k (drop at xs)) m
-
 -- and as code fills it
 pub part_written : (at end n : ℕ) (bs cs xs : List ℕ) → end ≡ at + n → length cs ≡ n → bs ≡ cs → put_mid at (end - at) xs bs ≡ with_bytes xs at cs
 part_written at end n bs cs xs s l q =

@@ -1,5 +1,5 @@
 // The end of the journal: how many calls it has, and the block that is written next.
-// A block is a lent slice of 512 bytes and no array, since it is a part of lent bytes that begins in their middle.
+// A block is handed on everywhere as a part of lent bytes, so it is a slice of 512 bytes and no array.
 ghost use Rattle.std.specs.Prelude.{◌≡◌, ◌*◌, ◌/◌, ◌%◌, ◌<◌, true, List, [], ◌∷◌, ◌++◌, length, Some, None, ◌==◌, nat_lt};
 ghost use Rattle.device.specs.Book.{every};
 ghost use Rattle.device.specs.Device.{pick};
@@ -12,12 +12,10 @@ ghost use Rattle.journal.specs.Blocks.{block_with, tail_in, with_row, RowOf};
 
 use crate::header::{Header, Label, ROWS, write_rows};
 use wire::call::Call;
-use wire::row::{read_row, write_row};
+use wire::row::{ROW, read_row, write_row};
 
-// Bytes of a header and of a row.
+// Bytes of a header.
 const HEADER: usize = 32;
-
-const ROW: usize = 20;
 
 // Puts a row behind the first n of a block; the first row begins the block anew.
 fn put_row(block: &mut [u8], label: Label, n: u64, call: Call)
@@ -43,17 +41,17 @@ pub struct Journal<'a> {
     read: u32,
     count: u64,
     // the book's limits may be given
-    ghost lawful: { allowed (limits_of label.limits) ≡ true },
+    pub ghost lawful: { allowed (limits_of label.limits) ≡ true },
     // a format is never 0
-    ghost named: { 0 < label.format },
+    pub ghost named: { 0 < label.format },
     // the block is whole
-    ghost whole: { length block.now ≡ 512 },
+    pub ghost whole: { length block.now ≡ 512 },
     // once it has rows, it is the block of the last calls
-    ghost bytes: { 0 < count % 24 → block.now ≡ block_with label (tail_in label count block.now) },
+    pub ghost bytes: { 0 < count % 24 → block.now ≡ block_with label (tail_in label count block.now) },
     // as many as are not in the blocks before
-    ghost long: { length (tail_in label count block.now) ≡ count % 24 },
+    pub ghost long: { length (tail_in label count block.now) ≡ count % 24 },
     // each of them can be stored
-    ghost rows: { every stored (tail_in label count block.now) ≡ true },
+    pub ghost rows: { every stored (tail_in label count block.now) ≡ true },
 }
 
 impl<'a> Journal<'a> {

@@ -2,14 +2,11 @@
 use crate::refuse;
 use life::lent::Lent;
 use life::life;
-use session::lent::Lent as Lending;
 use std::fs;
 use store::lines::{row_of, say_all};
 use store::memory::Memory;
 use store::{BLOCK, LIMITS};
-
-// The longest answer of this stage.
-const LONG: usize = 17;
+use wire::answer::most_answer;
 
 // Keeps the book of a device until the budget of acts is used; what is left of the unflushed writes the row says.
 pub fn keep_cut(
@@ -21,29 +18,16 @@ pub fn keep_cut(
 ) -> anyhow::Result<()> {
     let heap = rt.alloc();
     let mut image = fs::read(rt, device)?;
-    let mut rows = Vec::new(heap);
-    for line in calls.lines() {
-        rows.push(row_of(heap, line)?)?;
-    }
+    let rows: Vec<Vec<u8>> = calls
+        .lines()
+        .map(|line| row_of(heap, line))
+        .try_collect(heap)?;
     let calls: Vec<&[u8]> = rows.iter().map(|row| row.as_slice()).collect(heap)?;
-    let mut said = vec![in heap; 0u8; calls.len().saturating_mul(LONG)]?;
+    let mut said = vec![in heap; 0u8; calls.len().saturating_mul(most_answer(0))]?;
     let mut memory = Memory::new(heap, LIMITS)?;
     let mut places = [0];
     let mut blocks = [0; BLOCK];
-    let Lending {
-        cents,
-        numbers,
-        block,
-        bytes,
-    } = memory.lend();
-    let lent = Lent {
-        cents,
-        numbers,
-        block,
-        bytes,
-        places: &mut places,
-        blocks: &mut blocks,
-    };
+    let lent = Lent::of(memory.lend(), &mut places, &mut blocks);
     match life(LIMITS, lent, &mut image, &mut said, &calls, budget, row) {
         Ok(heard) => {
             fs::write(rt, device, image.as_slice())?;

@@ -15,9 +15,6 @@ use store::{LIMITS, Store, open_book};
 
 mod cut;
 
-// The most acts that a call has, and one more.
-const ACTS: u32 = 4;
-
 const USAGE: &str = "usage: keep DEVICE CALLS [BUDGET [ROW]]";
 
 // Prints that the book cannot be opened, by the place of what does not fit.
@@ -38,7 +35,7 @@ impl Keeper<'_> {
     // Does what is to be done: a block is on the disk before anything is said.
     fn perform(&mut self, rt: &HostRuntime) -> anyhow::Result<()> {
         let mut place = 0;
-        for _ in 0..ACTS {
+        loop {
             match self.session.next_act() {
                 Next::Write(k) => place = k,
                 Next::Flush => self.store.write(place, self.session.block())?,
@@ -49,7 +46,6 @@ impl Keeper<'_> {
                 Next::Done => return Ok(()),
             }
         }
-        Ok(())
     }
 
     // Answers all lines.
@@ -75,11 +71,9 @@ fn keep(rt: &HostRuntime, device: &str, calls: &str) -> anyhow::Result<()> {
 
 // The numbers of a text, between blanks.
 fn numbers_in(rt: &HostRuntime, text: &str) -> anyhow::Result<Vec<u64>> {
-    let mut numbers = Vec::new(rt.alloc());
-    for word in text.split_whitespace() {
-        numbers.push(word.parse::<u64>()?)?;
-    }
-    Ok(numbers)
+    text.split_whitespace()
+        .map(|word| -> anyhow::Result<u64> { Ok(word.parse::<u64>()?) })
+        .try_collect(rt.alloc())
 }
 
 // Keeps the book with a budget, and a row of numbers if there is a file of them.

@@ -29,7 +29,7 @@ impl Ledger<'_> {
         self.moved::<Outgoing>(account, value_day, known_day)
     }
 
-    // What was moved on a side of an account: a walk along its chain.
+    // What was moved on a side of an account: a walk along its chain, whose links lie in lent cells.
     fn moved<S: Side>(&self, account: u32, value_day: u32, known_day: u32) -> u64
         requires there { account < length (bank self.now).accounts }
         ensures { result ≡ tally (counts S.party_of known_day account value_day) (bank self.now).bookings }
@@ -63,6 +63,7 @@ impl Ledger<'_> {
     {
         let mut came = 0;
         let mut left = 0;
+        // by number: an account's cells lie in parallel columns, and two sums of a column each would go over them twice
         for a in 0..self.accounts.count() {
             let cells = self.accounts.get(a);
             came += cells.came;

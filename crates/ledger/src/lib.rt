@@ -37,20 +37,20 @@ pub struct Ledger<'a> {
     // how many calls were taken that changed the book
     done: u64,
     // no limit passes 10 ^ 11
-    ghost small: { (a : ℕ) → a < accounts.count → slice_index accounts.limit.now a ≤ 100000000000 },
+    pub ghost small: { (a : ℕ) → a < accounts.count → slice_index accounts.limit.now a ≤ 100000000000 },
     // each rate is of an account that is there
-    ghost owners: { Rated rates accounts.count } by { Prim.hlevel props },
+    pub ghost owners: { Rated rates accounts.count } by { Prim.hlevel props },
     // each booking is between accounts that are there, and not dated after today
-    ghost fit: { (i : ℕ) → i < bookings.count → Fit today accounts.count (row bookings i) } by { Prim.hlevel props },
+    pub ghost fit: { (i : ℕ) → i < bookings.count → Fit today accounts.count (row bookings i) } by { Prim.hlevel props },
     // the running sums are those of the bookings that are not taken back
-    ghost sums: { Sums accounts (rows bookings) } by { Prim.hlevel props },
+    pub ghost sums: { Sums accounts (rows bookings) } by { Prim.hlevel props },
     // the chains have room for all accounts and bookings, and lead through them by both sides
-    ghost linkable: { Linkable chains accounts.capacity bookings.capacity } by { Prim.hlevel props },
-    ghost incoming: { Chained chains.incoming (λ i. (row bookings i).to) bookings.count accounts.count } by { Prim.hlevel props },
-    ghost outgoing: { Chained chains.outgoing (λ i. (row bookings i).from) bookings.count accounts.count } by { Prim.hlevel props },
+    pub ghost linkable: { Linkable chains accounts.capacity bookings.capacity } by { Prim.hlevel props },
+    pub ghost incoming: { Chained chains.incoming (λ i. (row bookings i).to) bookings.count accounts.count } by { Prim.hlevel props },
+    pub ghost outgoing: { Chained chains.outgoing (λ i. (row bookings i).from) bookings.count accounts.count } by { Prim.hlevel props },
     // there are scratch cells for all accounts
-    ghost spare: { Spare scratch accounts.capacity } by { Prim.hlevel props },
-    ghost last_day: { today ≤ 3650 },
+    pub ghost spare: { Spare scratch accounts.capacity } by { Prim.hlevel props },
+    pub ghost last_day: { today ≤ 3650 },
     // no more calls were counted than changes can have used up
-    ghost most: { done ≤ most_calls rates.count bookings.count (backs (rows bookings)) today },
+    pub ghost most: { done ≤ most_calls rates.count bookings.count (backs (rows bookings)) today },
 }

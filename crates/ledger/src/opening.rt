@@ -56,7 +56,7 @@ pub struct Refused<'a> {
     pub numbers: &'a mut [u32],
 }
 
-// What does not fit, if a book with these limits is to be opened in so many cells.
+// What does not fit, if a book with these limits is to be opened in so many cells. No `Result`: what refuses by it hands the lent memory back too.
 pub fn what_misfits(limits: Limits, cents: usize, numbers: usize) -> Option<Misfit>
     ensures { result ≡ misfit (limits_of limits) cents numbers }
 {

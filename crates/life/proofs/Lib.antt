@@ -1,7 +1,6 @@
-pub mod Answers
 pub mod Saying
 pub mod Runs
 pub mod Sameness
 pub mod Calling
 pub mod Cuts
-pub mod Endings
+pub mod Room

@@ -1,15 +1,14 @@
 -- An answer is said: it is heard behind the others, and there is room for what is left.
-use Rattle.std.proofs.Common.{◌≡◌, ℕ, ◌+◌, ◌-◌, List, ◌∷◌, ◌++◌, length, take, refl, ap, ◌∙◌, subst}
+use Rattle.std.proofs.Common.{◌≡◌, ℕ, ◌+◌, List, ◌∷◌, ◌++◌, take, refl, ap, ◌∙◌}
 use Rattle.device.specs.Device.{say}
-use Rattle.bank.specs.Device.{Act}
 use Rattle.wire.specs.Answered.{written_answer}
 use Rattle.sim.specs.Held.{done}
 use Rattle.session.specs.declared.Session.{Session}
 use Rattle.session.specs.Session.{left, answer_of_lem}
 use Rattle.sim.specs.declared.Disk.{Disk}
 use Rattle.life.specs.declared.heard.Listener.{Listener}
-use Rattle.life.specs.Heard.{spoken_in, free_in}
-use Rattle.life.specs.Life.{world, after_act, space, Fits, FitsOn}
+use Rattle.life.specs.Heard.{spoken_in}
+use Rattle.life.specs.Life.{world, after_act}
 
 -- the bytes that are said are the answer's
 pub said_bytes : (s t : Session) (n : ℕ) (bs rs : List ℕ) → n ≡ s.said → t.bytes.now ≡ s.bytes.now → bs ≡ t.bytes.now → rs ≡ take n bs → rs ≡ written_answer (answer_of_lem s)
@@ -19,8 +18,3 @@ module _ (d : Disk) (e g : Listener) (s t : Session) (rs : List ℕ) (is : rs �
   pub said_world : spoken_in g.said.now g.heard ≡ spoken_in e.said.now e.heard ++ rs → g.heard.answers ≡ e.heard.answers + 1 → world d g ≡ after_act (world d e) (say (answer_of_lem s))
   unfolding done
   said_world p q = rw (p, q, is) refl
-
-  pub said_fits : free_in g.said.now g.heard ≡ free_in e.said.now e.heard - length rs → FitsOn (space d e) (left s) (space d g) (left t)
-  said_fits p n f =
-      let h : Fits n (space d e) (say (answer_of_lem s) ∷ left t) = subst (λ (xs : List Act). Fits n (space d e) xs) was f in
-      rw (p, is) h.1

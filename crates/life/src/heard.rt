@@ -18,8 +18,8 @@ pub struct Heard {
 pub(crate) struct Listener<'a> {
     said: &'a mut [u8],
     heard: Heard,
-    ghost inside: { heard.bytes ≤ length said.now },
-    ghost counted: { heard.answers ≤ heard.bytes },
+    pub ghost inside: { heard.bytes ≤ length said.now },
+    pub ghost counted: { heard.answers ≤ heard.bytes },
 }
 
 // The first n bytes, or all where there are fewer.
@@ -37,7 +37,7 @@ fn longest_answer(row: &[u8]) -> usize
     most_answer(0)
 }
 
-// Is there room for the answers to all calls?
+// Is there room for the answers to all calls? A loop: by `try_fold` the proof did not close.
 pub(crate) fn can_hear(said: &[u8], calls: &[&[u8]]) -> bool
     ensures room { result ≡ nat_le (17 * length calls.now) (length said.now) }
     ensures readable { result ≡ true → all_readable (rows_read calls.now) ≡ true }

@@ -28,7 +28,7 @@ use sim::Disk;
 pub mod heard;
 pub mod lent;
 
-// Does the next act of a session, if there is one.
+// Does the next act of a session, if there is one. Session, disk and listener are three values: in one struct, their lender would not learn what they hold in the end.
 fn act(session: &mut Session, disk: &mut Disk, listener: &mut Listener) -> bool
     requires { Fits 0 (space disk.old listener.old) (left session.old) }
     ensures acted { Acted result (left session.old) (left session.new) (world disk.old listener.old) (world disk.new listener.new) }
@@ -127,6 +127,7 @@ pub fn life(
         block,
         bytes,
     };
+    // no `map_err`: the borrow check has no rule for a closure that takes what was refused, with its lent memory
     let opening = match open(limits, memory) {
         Ok(opening) => opening,
         Err(refused) => return Err(refused.misfit),

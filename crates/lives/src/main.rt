@@ -4,7 +4,6 @@
 use anyhow::anyhow;
 use life::lent::Lent;
 use life::life;
-use session::lent::Lent as Lending;
 use store::lines::{row_of, say_all};
 use store::memory::Memory;
 use store::{BLOCK, LIMITS};
@@ -100,28 +99,16 @@ fn play(rt: &HostRuntime, image: &mut [u8], of: Life) -> anyhow::Result<()> {
     let heap = rt.alloc();
     let heading = of.heading;
     println!(rt; "{heading}")?;
-    let mut rows = Vec::new(heap);
-    for line in of.lines {
-        rows.push(row_of(heap, line)?)?;
-    }
+    let rows: Vec<Vec<u8>> = of
+        .lines
+        .iter()
+        .map(|line| row_of(heap, *line))
+        .try_collect(heap)?;
     let calls: Vec<&[u8]> = rows.iter().map(|row| row.as_slice()).collect(heap)?;
     let mut memory = Memory::new(heap, LIMITS)?;
     let mut places = [0];
     let mut blocks = [0; BLOCK];
-    let Lending {
-        cents,
-        numbers,
-        block,
-        bytes,
-    } = memory.lend();
-    let lent = Lent {
-        cents,
-        numbers,
-        block,
-        bytes,
-        places: &mut places,
-        blocks: &mut blocks,
-    };
+    let lent = Lent::of(memory.lend(), &mut places, &mut blocks);
     let mut said = [0; SAID];
     let Ok(heard) = life(LIMITS, lent, image, &mut said, &calls, of.budget, of.row) else {
         return Err(anyhow!("the book cannot be opened"));

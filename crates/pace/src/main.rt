@@ -4,7 +4,7 @@
 use anyhow::anyhow;
 use columns::limits::Limits;
 use disk::Device;
-use phase::{PHASES, Phase, Size};
+use phase::{LIMIT, PAID_IN, QUESTIONS, Size, TOO_MUCH, balance, order};
 use session::opening::open;
 use session::{Next, Session};
 use std::env;
@@ -53,20 +53,28 @@ impl Runner<'_> {
     }
 
     // All calls of a phase.
-    fn play(&mut self, phase: Phase, size: Size) {
-        for i in 0..phase.calls(size) {
-            self.ask(phase.call(size, i));
+    fn play<F: Fn(u32) -> Call>(&mut self, count: u32, call: F)
+        requires { F.IsAlwaysCallable call }
+    {
+        for i in 0..count {
+            self.ask(call(i));
         }
     }
 
     // A phase, with what it came to and how long it took.
-    fn measure_phase(&mut self, rt: &HostRuntime, phase: Phase, size: Size) -> anyhow::Result<()> {
+    fn measure_phase<F: Fn(u32) -> Call>(
+        &mut self,
+        rt: &HostRuntime,
+        title: &str,
+        count: u32,
+        call: F,
+    ) -> anyhow::Result<()>
+        requires { F.IsAlwaysCallable call }
+    {
         let before = self.device.refusals;
         let start = Instant::now(rt)?;
-        self.play(phase, size);
+        self.play(count, &call);
         let time = start.elapsed(rt)?;
-        let title = phase.title();
-        let count = phase.calls(size);
         let refused = self.device.refusals.wrapping_sub(before);
         println!(rt; "{title}: {count} calls, {refused} refused")?;
         say_time(rt, title, count, time)
@@ -74,9 +82,52 @@ impl Runner<'_> {
 
     // All phases, one after another.
     fn measure_all(&mut self, rt: &HostRuntime, size: Size) -> anyhow::Result<()> {
-        for phase in &PHASES {
-            self.measure_phase(rt, *phase, size)?;
-        }
+        let accounts = size.opened();
+        let opened = accounts as u64;
+        let bookings = size.limits.bookings;
+        let open = Call::Open {
+            limit: LIMIT,
+            rate: 0,
+        };
+        self.measure_phase(rt, "accounts opened", accounts, |_| open)?;
+        self.measure_phase(
+            rt,
+            "moves from the till",
+            bookings / 4,
+            |i| Call::Move {
+                value: 0,
+                from: 0,
+                to: 2 + i as u64 % opened,
+                amount: PAID_IN,
+            },
+        )?;
+        self.measure_phase(
+            rt,
+            "moves between accounts",
+            bookings - bookings / 4,
+            |i| order(opened, i, 1 + i as u64 % 100),
+        )?;
+        self.measure_phase(
+            rt,
+            "moves of more than there is",
+            bookings,
+            |i| order(opened, i, TOO_MUCH),
+        )?;
+        self.measure_phase(
+            rt,
+            "moves when the book is full",
+            bookings,
+            |i| order(opened, i, 1 + i as u64 % 100),
+        )?;
+        self.measure_phase(
+            rt,
+            "balances of the accounts opened",
+            accounts,
+            |i| balance(2 + i as u64 % opened),
+        )?;
+        self.measure_phase(rt, "balances of the till", QUESTIONS, |_| balance(0))?;
+        self.measure_phase(rt, "sums", QUESTIONS, |_| Call::Sums)?;
+        self.measure_phase(rt, "calls taken", QUESTIONS, |_| Call::Taken)?;
         let writes = self.device.writes;
         let flushes = self.device.flushes;
         let answers = self.device.answers;
@@ -102,7 +153,7 @@ fn measure(rt: &HostRuntime, size: Size, memory: &mut Memory) -> anyhow::Result<
     let Ok(opening) = open(size.limits, memory.lend()) else {
         return Err(anyhow!(USAGE));
     };
-    let Some(session) = stand(opening, |_, _| true) else {
+    let Some(session) = stand(opening, |_, _| Some(())) else {
         return Err(anyhow!("an empty device was refused"));
     };
     let time = start.elapsed(rt)?;

@@ -1,5 +1,5 @@
 -- Blocks that are read while a session is opened.
-use Rattle.std.proofs.Common.{◌≡◌, ℕ, ◌+◌, ◌*◌, ◌<◌, ◌≤◌, max, Bool, true, false, ◌&&◌, eqb, ltb, leb, List, ◌++◌, Some, None, Option, sym, ap, ◌∙◌, subst, arith}
+use Rattle.std.proofs.Common.{◌≡◌, ℕ, ◌+◌, ◌*◌, max, Bool, true, false, ◌&&◌, eqb, ltb, leb, List, ◌++◌, Some, None, Option, sym, ap, ◌∙◌, subst}
 use Rattle.std.proofs.lemmas.Option.{cond_some}
 use Rattle.std.proofs.lemmas.Bool.{and_parts}
 use Rattle.device.specs.Device.{pick}
@@ -52,13 +52,6 @@ module _ (s : Session) (j : Journal) (bs : List ℕ) (n : ℕ) (t : Took s.journ
 
   pub taken_read : j.read ≡ s.journal.read + 1
   taken_read = t.read ∙ ap (λ (b : Bool). s.journal.read + pick b 1 0) next_accepted
-
-  pub has_rows : 0 < n → j.count + n ≤ 24 * j.blocks
-  has_rows h =
-      let c = t.count in
-      let b = t.blocks in
-      let k = t.fit.joins h in
-      omega (arith, t.fit.few, t.fit.there)
 
 -- one block more
 pub advances : (o p : Opening) (q : Session) (bs : List ℕ) (n : ℕ) → Took o.session.journal q.journal bs (Some n) → q.book ≡ o.session.book → q.stage ≡ o.session.stage →

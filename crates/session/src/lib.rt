@@ -59,10 +59,10 @@ pub struct Session<'a> {
     answer: Answer,
     stage: Stage,
     // the journal is that of the book
-    ghost joined: { Joined book.ledger journal },
+    pub ghost joined: { Joined book.ledger journal },
     // the answer stands in the lent bytes
-    ghost roomy: { 17 ≤ length bytes.now },
-    ghost spoken: { take said bytes.now ≡ written_answer (answered answer []) },
+    pub ghost roomy: { 17 ≤ length bytes.now },
+    pub ghost spoken: { take said bytes.now ≡ written_answer (answered answer []) },
 }
 
 impl<'a> Session<'a> {
@@ -70,8 +70,7 @@ impl<'a> Session<'a> {
 
     // Puts an answer, which no bookings follow, into the lent bytes, to be said.
     fn reply(&mut self, answer: Answer)
-        requires room { 17 ≤ length self.old.bytes.now }
-        requires plain { Follows answer [] }
+        requires { Follows answer [] }
         ensures { Replied self.old self.new answer }
     {
         let length = write_plain(self.bytes, answer);
@@ -134,6 +133,13 @@ impl<'a> Session<'a> {
         ensures { result.now ≡ self.now.book.ledger }
     {
         self.book.ledger()
+    }
+
+    // The book as calls are taken on it, to be asked.
+    pub fn desk(&self) -> &Book<'a>
+        ensures { result.now ≡ self.now.book }
+    {
+        &self.book
     }
 
     // The bytes that a write is of.

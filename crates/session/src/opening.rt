@@ -76,7 +76,7 @@ fn begin<'a>(
     Opening { session }
 }
 
-// What does not fit, before the book's own cells are looked at.
+// What does not fit, before the book's own cells are looked at. No `Result`: what refuses by it hands the lent memory back too.
 fn what_misfits(limits: Limits, lent: &Lent) -> Option<Misfit>
     ensures { result ≡ outer_misfit (limits_of limits) (length lent.now.block.now) (length lent.now.bytes.now) }
 {

@@ -40,7 +40,7 @@ impl Session<'_> {
         self.replay(row_at(block, i)?)
     }
 
-    // Takes the calls of the first `rows` rows of a block again.
+    // Takes the calls of the first `rows` rows of a block again, by number, as a row is read at its place.
     pub(crate) fn replay_block(&mut self, block: &[u8], rows: usize) -> Option<()>
         requires whole { length block.now ≡ 512 }
         requires few { rows ≤ 24 }

@@ -17,7 +17,7 @@ use store::memory::Memory;
 use store::{LIMITS, Store, open_book};
 use wire::booking::{Booking, mark_number};
 
-// Prints an account and its rates.
+// Prints an account and its rates, which the book hands out by number.
 fn show_account(rt: &HostRuntime, book: &Ledger, account: u32) -> anyhow::Result<()>
     requires { account < length (bank book.now).accounts }
 {
@@ -37,14 +37,22 @@ fn show_account(rt: &HostRuntime, book: &Ledger, account: u32) -> anyhow::Result
 
 // Prints a booking.
 fn show_booking(rt: &HostRuntime, number: usize, b: Booking) -> anyhow::Result<()> {
-    let kind = u32::from(b.kind);
-    let back = mark_number(b.back);
-    let (on, value, from, to, amount) = (b.on, b.value, b.from, b.to, b.amount);
+    let Booking {
+        on,
+        value,
+        from,
+        to,
+        amount,
+        kind,
+        back,
+    } = b;
+    let kind = u32::from(kind);
+    let back = mark_number(back);
     println!(rt; "booking {number} {on} {value} {from} {to} {amount} {kind} {back}")?;
     Ok(())
 }
 
-// Prints all accounts, then all bookings.
+// Prints all accounts, then all bookings, which the book hands out by number.
 fn show_book(rt: &HostRuntime, book: &Ledger) -> anyhow::Result<()> {
     for number in 0..book.account_count() {
         if let Some(account) = book.account(number as u64) {
@@ -52,9 +60,7 @@ fn show_book(rt: &HostRuntime, book: &Ledger) -> anyhow::Result<()> {
         }
     }
     for number in 0..book.booking_count() {
-        if let Some(booking) = book.find_booking(number as u64) {
-            show_booking(rt, number, booking)?;
-        }
+        show_booking(rt, number, book.booking(number))?;
     }
     Ok(())
 }

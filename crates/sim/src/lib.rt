@@ -20,9 +20,9 @@ pub struct Disk<'i, 'a> {
     places: &'a mut [u64],
     blocks: &'a mut [u8],
     count: usize,
-    ghost numbered: { count ≤ length places.now },
-    ghost whole: { 512 * count ≤ length blocks.now },
-    ghost inside: { (i : ℕ) → i < count → 512 * slice_index places.now i + 512 ≤ length image.now },
+    pub ghost numbered: { count ≤ length places.now },
+    pub ghost whole: { 512 * count ≤ length blocks.now },
+    pub ghost inside: { (i : ℕ) → i < count → 512 * slice_index places.now i + 512 ≤ length image.now },
 }
 
 // How often block k stands in a list of blocks.
@@ -32,7 +32,7 @@ fn times_written(places: &[u64], k: u64) -> usize
     places.iter().filter(|place| **place == k).count()
 }
 
-// How many different blocks stand in a list of blocks: each is counted where it stands last.
+// How many different blocks stand in a list of blocks: each is counted where it stands last. A loop, since what is asked of one is asked of those behind it.
 fn different_blocks(places: &[u64]) -> usize
     ensures { result ≡ different places.now }
 {
@@ -96,7 +96,7 @@ impl<'i, 'a> Disk<'i, 'a> {
         self.image
     }
 
-    // Keeps a write. It is refused where it is no whole block, where there is no such block, or where there is no room.
+    // Keeps a write, or not: nothing else is to be told. It is refused where it is no whole block, where there is no such block, or where there is no room.
     pub fn write(&mut self, k: u64, block: &[u8]) -> bool
         ensures taken { result ≡ takes self.old k block.now }
         ensures held { holds self.new ≡ pick result (done {A = Answer} (holds self.old) (written k block.now)) (holds self.old) }

@@ -20,7 +20,7 @@ pub const LIMITS: Limits = Limits {
     bookings: 512,
 };
 
-pub const BLOCK: usize = 512;
+pub use blocks::BLOCK;
 
 // A file of blocks that is open.
 #[derive(Drop)]
@@ -72,7 +72,7 @@ impl Store {
 }
 
 // The session of an opening, whose blocks are read one after another. None where one cannot be read, or cannot be of this book.
-pub fn stand<'a, F: FnMut(u64, &mut [u8]) -> bool>(
+pub fn stand<'a, F: FnMut(u64, &mut [u8]) -> Option<()>>(
     opening: Opening<'a>,
     mut read: F,
 ) -> Option<Session<'a>>
@@ -81,22 +81,17 @@ pub fn stand<'a, F: FnMut(u64, &mut [u8]) -> bool>(
     let mut opening = opening;
     let mut block = [0; BLOCK];
     while let Some(k) = opening.next_block() {
-        if !read(k, &mut block) {
-            return None;
-        }
+        read(k, &mut block)?;
         opening = opening.take_block(&block)?;
     }
     opening.stand()
 }
 
-// Opens the book that a file of blocks holds.
+// Opens the book that a file of blocks holds. A match and no `map_err`: the borrow check has no rule for a closure that takes what was refused, with its lent memory.
 pub fn open_book<'a>(store: &mut Store, memory: &'a mut Memory) -> Result<Session<'a>, Misfit> {
     let opening = match open(LIMITS, memory.lend()) {
         Ok(opening) => opening,
         Err(refused) => return Err(refused.misfit),
     };
-    let Some(session) = stand(opening, |k, block| store.read(k, block).is_ok()) else {
-        return Err(Misfit::Device);
-    };
-    Ok(session)
+    stand(opening, |k, block| store.read(k, block).ok()).ok_or(Misfit::Device)
 }

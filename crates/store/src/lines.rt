@@ -1,11 +1,16 @@
 // What the programs read and print: lines of calls as rows of bytes, and answers as lines.
+ghost use Rattle.std.specs.Prelude.{◌≡◌, [], IfOk, unwrap_or};
+ghost use Rattle.text.specs.Lines.{row_in};
+
 use anyhow::anyhow;
 use std::alloc::{AllocError, Global};
 use text::answer::write_answer_line;
 use text::line::{LONGEST, read_line};
 
 // The row of bytes that a line stands for; one that stands for none is as a row of no bytes.
-pub fn row_of(heap: Global, line: &str) -> Result<Vec<u8>, AllocError> {
+pub fn row_of(heap: Global, line: &str) -> Result<Vec<u8>, AllocError>
+    ensures { IfOk result (λ row. row.items ≡ unwrap_or (row_in line.now) []) }
+{
     let mut row = [0; LONGEST];
     let n = read_line(line.as_bytes(), &mut row).unwrap_or(0);
     row[..n].to_vec(heap)
@@ -35,4 +40,17 @@ pub fn say_all(rt: &HostRuntime, said: &[u8], answers: usize) -> anyhow::Result<
         rest = behind;
     }
     Ok(())
+}
+
+#[cfg(test)]
+mod tests {
+    use super::*;
+    use std::test::Fail;
+
+    #[test]
+    fn rows_of_lines(rt: HostRuntime) -> Result<(), Fail> {
+        assert_eq!(rt; row_of(rt.alloc(), "taken")?.as_slice(), b"\x08".as_slice());
+        assert!(rt; row_of(rt.alloc(), "nothing")?.is_empty());
+        Ok(())
+    }
 }

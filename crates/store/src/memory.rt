@@ -2,6 +2,7 @@
 ghost use Rattle.std.specs.Prelude.{◌≡◌, ◌+◌, ◌*◌, max, length, IfOk};
 ghost use Rattle.columns.specs.Sizes.{limits_of, cents_for, numbers_for};
 
+use blocks::BLOCK;
 use columns::limits::Limits;
 use session::lent::Lent;
 use std::alloc::{AllocError, Global};
@@ -27,7 +28,7 @@ impl Memory {
         Ok(Memory {
             cents: vec![in heap; 0u64; limits.cents_needed()]?,
             numbers: vec![in heap; 0u32; limits.numbers_needed()]?,
-            block: vec![in heap; 0u8; 512]?,
+            block: vec![in heap; 0u8; BLOCK]?,
             bytes: vec![in heap; 0u8; most_answer(limits.bookings)]?,
         })
     }
@@ -45,5 +46,27 @@ impl Memory {
             block: self.block.as_mut_slice(),
             bytes: self.bytes.as_mut_slice(),
         }
+    }
+}
+
+#[cfg(test)]
+mod tests {
+    use super::*;
+    use std::test::Fail;
+
+    #[test]
+    fn as_much_as_is_asked_for(rt: HostRuntime) -> Result<(), Fail> {
+        let limits = Limits {
+            accounts: 4,
+            rates: 2,
+            bookings: 3,
+        };
+        let mut memory = Memory::new(rt.alloc(), limits)?;
+        let lent = memory.lend();
+        assert_eq!(rt; lent.cents.len(), 27);
+        assert_eq!(rt; lent.numbers.len(), 42);
+        assert_eq!(rt; lent.block.len(), 512);
+        assert_eq!(rt; lent.bytes.len(), 177);
+        Ok(())
     }
 }

@@ -41,7 +41,7 @@ static REASONS: [&str; 11] = [
     "the book has no room for it",
 ];
 
-// Why a call is turned away by a number.
+// Why a call is turned away by a number: an answer's bytes have no more than that.
 pub fn refusal_words(number: u64) -> &'static str
     ensures { result.now ≡ slice_index_or reasons number unknown }
 {

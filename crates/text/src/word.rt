@@ -84,7 +84,7 @@ fn with_digit(n: u64, b: u8) -> Option<u64>
     n.checked_mul(10)?.checked_add((b - b'0') as u64)
 }
 
-// The number that a word is, if it is one.
+// The number that a word is, if it is one; `parse` would take a sign, too.
 pub(crate) fn number_in(word: &[u8]) -> Option<u64>
     ensures { result ≡ word_number word.now }
 {

@@ -7,7 +7,7 @@ use Rattle.std.proofs.lemmas.List.{places, take_more_set, drop_all, drop_more, d
 use Rattle.std.proofs.lemmas.Slice.{between_is}
 use borrow.Rule.Slice.PartMut.{put_mid}
 use Rattle.device.specs.Rows.{bytes_of, number_of, numbers, row, top, width, with_bytes}
-use Rattle.device.proofs.Parts.{with_more, with_none, with_one}
+use Rattle.device.proofs.Parts.{with_more, with_none}
 use Rattle.device.proofs.Rows.{length_bytes, row_length, zeros}
 use Rattle.std.proofs.lemmas.Bool.{and_parts, leb-true, ltb-true}
 use Rattle.device.specs.Device.{all_bytes}
@@ -89,13 +89,6 @@ narrow_eights (suc n) = narrow_eights n
 
 pub length_form : (t : ℕ) (ns : List ℕ) → length (form t ns) ≡ 1 + 8 * length ns
 length_form t ns = omega (arith, row_length (eights (length ns)) ns, width_eights (length ns))
-
--- a byte, and numbers behind it
-pub form_put : (out after ws : List ℕ) (t : ℕ) (ns : List ℕ) → 0 < length out → after ≡ with_bytes (set out 0 t) 1 (row ws ns) → ws ≡ eights (length ns) → after ≡ with_bytes out 0 (form t ns)
-form_put out after ws t ns h e w =
-    e ∙ ap (λ x. with_bytes (set out 0 t) 1 (row x ns)) w
-    ∙ ap (λ x. with_bytes x 1 (row (eights (length ns)) ns)) (with_one out 0 t h)
-    ∙ with_more out (t ∷ []) (row (eights (length ns)) ns) 0 1 refl (omega arith)
 
 -- bytes are those of the number that they are
 pub bytes_again : (k : ℕ) (bs : List ℕ) → all_bytes bs ≡ true → k ≤ length bs → bytes_of k (number_of k bs) ≡ take k bs

@@ -16,7 +16,7 @@ ghost use Rattle.wire.specs.Booked.{booked};
 use crate::booking::{Booking, mark_number};
 use crate::bytes::{eights, put_form, put_numbers, write_form};
 
-// `Lines` is followed by as many bookings as it says.
+// `Lines` is followed by as many bookings as it says. A reason and a place are numbers here, since an answer of any bytes can be written; the cases are the desk's `Refusal`.
 #[derive(Clone, Copy, Debug, PartialEq, Eq)]
 pub enum Answer {
     Refused { reason: u64, place: u64 },

@@ -21,6 +21,7 @@ use crate::bytes::{eights, numbers_at, write_form};
 // How many numbers follow the byte that a call begins with.
 const FIELDS: [usize; 9] = [2, 2, 4, 1, 0, 3, 3, 0, 0];
 
+// A call, by its numbers.
 #[derive(Clone, Copy, Debug, PartialEq, Eq)]
 pub enum Call {
     Open {
@@ -56,7 +57,7 @@ pub enum Call {
 }
 
 impl Call {
-    // The byte that a call begins with.
+    // The byte that a call begins with. No cast gives it: the cases have numbers.
     pub(crate) fn number(self) -> u8
         ensures { result ≡ call_number (meant self) }
     {
@@ -140,7 +141,7 @@ impl Call {
     }
 }
 
-// The call that bytes begin with and the bytes behind it, or the first byte that does not fit.
+// The call that bytes begin with and the bytes behind it, or the place of the first byte that does not fit: a place, and no code.
 pub fn read_first(bytes: &[u8]) -> Result<(Call, &[u8]), usize>
     ensures { elim result [ Ok p ↦ first_call bytes.now ≡ begins (meant p.0) p.1.now | Err k ↦ first_call bytes.now ≡ fails k ] }
 {

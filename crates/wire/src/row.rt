@@ -24,7 +24,7 @@ pub const ROW: usize = 20;
 
 const KIND: usize = 2;
 
-// How wide the numbers of a kind are.
+// How wide the numbers of a kind are. The kind is a number of the format; its enum is `Call`.
 #[tactic(auto, unfolding(model::specs::JournalBlock::call_widths))]
 fn widths(kind: u64) -> &'static [usize]
     requires { kind ≤ 5 }

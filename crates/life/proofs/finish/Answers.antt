@@ -22,12 +22,5 @@ pub returns-else-act-clause-world : goal.returns-else-act-clause-world
 returns-else-act-clause-world c =
     let e = c.if-act.ensures in e.acted.2 ∙ (sym (run_none c.loop-left.left (world c.loop-left.disk c.loop-left.listener) _ e.acted.0).0 ∙ c.loop-left.invariant.world)
 
-pub returns-else-act-clause-same : goal.returns-else-act-clause-same
-returns-else-act-clause-same c = same_more c.args.session.now c.loop-left.session c.act.new.session c.loop-left.invariant.same c.if-act.ensures.same
-
-pub returns-else-act-clause-stays : goal.returns-else-act-clause-stays
-returns-else-act-clause-stays c =
-    stays_more c.args.disk.now c.loop-left.disk c.act.new.disk c.args.listener.now c.loop-left.listener c.act.new.listener c.loop-left.invariant.stays c.if-act.ensures.stays
-
 pub returns-after-loop-left-clause-world : goal.returns-after-loop-left-clause-world
 returns-after-loop-left-clause-world c = sym (run_used c.loop-left.left (world c.loop-left.disk c.loop-left.listener) (left c.loop-left.session) c.loop-left-test.false).0 ∙ c.loop-left.invariant.world

@@ -6,7 +6,7 @@ use Rattle.columns.specs.Sizes.{limits_of}
 use Rattle.ledger.specs.Meaning.{limits}
 use Rattle.session.specs.Session.{memory}
 use Rattle.life.proofs.Cuts.{ended}
-use Rattle.life.proofs.Endings.{all_fits}
+use Rattle.life.proofs.Room.{all_fits}
 use Rattle.life.proofs.life.Goals as goal
 
 pub returns-clause-ended : goal.returns-clause-ended
@@ -14,7 +14,7 @@ returns-clause-ended c =
     let f : c.is_room.result ≡ true = c.if-not-is_room.false in
     let o = c.in-Ok.ensures in
     let s = c.in-Some.ensures in
-    let fits = all_fits (limits_of c.args.limits) c.args.lent (length c.args.said.now) (length c.args.calls.now) c.args.image.now o.0 (sym c.is_room.ensures.room ∙ f) in
+    let fits = all_fits (limits_of c.args.limits) c.args.lent (length c.args.said.now) (length c.args.calls.now) o.0 (sym c.is_room.ensures.room ∙ f) in
     let d = c.new-disk.ensures in
     let e = c.new-listener.ensures in
     ended (limits_of c.args.limits) (limits c.in-Some.session.book.ledger) c.args.lent c.args.image.now c.args.calls.now c.args.budget c.args.row.now _ c.args.said.now _ c.new-disk.result c.live.new.disk

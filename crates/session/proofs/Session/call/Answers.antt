@@ -27,11 +27,11 @@ invariant_of-self c =
     let s = c.args.self.now in
     record { joined = joined_on s.book.ledger c.take.new.self.ledger s.journal _ _ _ c.take.ensures s.joined; roomy = s.roomy; spoken = s.spoken }
 
-pub reply-requires-in-Changed-clause-plain : goal.reply-requires-in-Changed-clause-plain
-reply-requires-in-Changed-clause-plain c = let g = c.args.self.now.book.ledger in follows (limits g) (bank g) (meant c.in-Ok.call) c.in-Changed.answer c.in-Changed.ensures.told_is
+pub reply-requires-in-Changed : goal.reply-requires-in-Changed
+reply-requires-in-Changed c = let g = c.args.self.now.book.ledger in follows (limits g) (bank g) (meant c.in-Ok.call) c.in-Changed.answer c.in-Changed.ensures.told_is
 
-pub reply-requires-in-Unchanged-clause-plain : goal.reply-requires-in-Unchanged-clause-plain
-reply-requires-in-Unchanged-clause-plain c = let g = c.args.self.now.book.ledger in follows (limits g) (bank g) (meant c.in-Ok.call) c.in-Unchanged.answer c.in-Unchanged.ensures.told_is
+pub reply-requires-in-Unchanged : goal.reply-requires-in-Unchanged
+reply-requires-in-Unchanged c = let g = c.args.self.now.book.ledger in follows (limits g) (bank g) (meant c.in-Ok.call) c.in-Unchanged.answer c.in-Unchanged.ensures.told_is
 
 pub append-requires-clause-kept : goal.append-requires-clause-kept
 append-requires-clause-kept c = can_store c.args.self.now c.take.new.self.ledger _ _ c.in-Changed.ensures
