@@ -37,7 +37,7 @@ fn longest_answer(row: &[u8]) -> usize
     most_answer(0)
 }
 
-// Is there room for the answers to all calls? A loop: by `try_fold` the proof did not close.
+// Is there room for the answers to all calls? A loop: by `try_fold` the search alone found no proof.
 pub(crate) fn can_hear(said: &[u8], calls: &[&[u8]]) -> bool
     ensures room { result ≡ nat_le (17 * length calls.now) (length said.now) }
     ensures readable { result ≡ true → all_readable (rows_read calls.now) ≡ true }

@@ -1,4 +1,4 @@
-// The memory that a life is lent, in one struct: where one holds another that holds lent slices, the lender would not learn what they hold in the end.
+// The memory that a life is lent, in one struct: the borrow check has no rule for one that is taken by value and holds another with lent slices.
 ghost use Rattle.std.specs.Prelude.{◌≡◌};
 
 use session::lent::Lent as Memory;

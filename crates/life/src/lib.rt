@@ -127,7 +127,7 @@ pub fn life(
         block,
         bytes,
     };
-    // no `map_err`: the borrow check has no rule for a closure that takes what was refused, with its lent memory
+    // a match in place of `map_err`, as in `store`: there the borrow check had no rule for a closure that takes what was refused, with its lent memory
     let opening = match open(limits, memory) {
         Ok(opening) => opening,
         Err(refused) => return Err(refused.misfit),

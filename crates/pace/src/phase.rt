@@ -1,4 +1,4 @@
-// The phases of a run: what is called in each, and how often.
+// The calls of a run: within which limits, how often a question is asked, and which call comes at which turn.
 //
 // Accounts 0 and 1 are there from the start; the calls are about those from 2 on, which are opened.
 ghost use Rattle.std.specs.Prelude.{◌≡◌, ◌≤◌, ◌&&◌, is_some, nat_le};
