@@ -5,12 +5,16 @@ use Rattle.std.proofs.lemmas.Bool.{cases_eq, cases_lt, eq-eqb, ne_eqb}
 use Rattle.std.proofs.lemmas.List.{length-take, length-drop, length-append, take-append-le}
 use lib.ListN.{length-replicate}
 use Rattle.device.specs.Device.{put, pick}
-use Rattle.blocks.specs.Blocks.{block, put_block, device_of}
+use Rattle.blocks.specs.Blocks.{part, block, put_block, device_of}
 use Rattle.device.proofs.Parts.{with_length, with_rest, with_same, with_before}
 
--- a block as code hands it on, from its start to its end
-pub block_read : (k : ℕ) (bytes : List ℕ) → take (512 * k + 512 - 512 * k) (drop (512 * k) bytes) ≡ block k bytes
-block_read k bytes = let n : 512 * k + 512 - 512 * k ≡ 512 = omega arith in rw n
+-- a part as code hands it on, from its start to its end
+pub part_read : (at end n : ℕ) (xs : List ℕ) → end ≡ at + n → take (end - at) (drop at xs) ≡ part at n xs
+part_read at end n xs s = let m : end - at ≡ n = omega arith in rw m
+
+-- a block that is there
+pub length_block : (k : ℕ) (bytes : List ℕ) → 512 * k + 512 ≤ length bytes → length (block k bytes) ≡ 512
+length_block k bytes room = simp (length-take, length-drop) (omega arith)
 
 pub device_block : (k : ℕ) (bytes : List ℕ) → 512 * k + 512 ≤ length bytes → device_of bytes k ≡ block k bytes
 unfolding device_of

@@ -15,7 +15,6 @@ pub fn blocks_in(bytes: &[u8]) -> u64
 }
 
 // Block k, which is there.
-#[tactic(auto, using(crate::proofs::Blocks::block_read, crate::proofs::Blocks::device_block))]
 pub fn block_at(bytes: &[u8], k: usize) -> &[u8]
     requires { 512 * k + 512 ≤ length bytes.now }
     ensures bytes { result.now ≡ block k bytes.now }

@@ -28,4 +28,4 @@ module _ (n : Bank) (q : month_starts (suc n.today) ≡ false) where
 
 -- what was served where no month ends
 pub within_month : (g h : Ledger) (a : Answer) (did : Bool) → month_starts (suc (bank g).today) ≡ false → Served g h day_ends a did → DayServed g h a did
-within_month g h a did q s = record { within = λ _. s; month = λ e. absurd (true≢false (sym e ∙ q)) }
+within_month g h a did q s = record { within = λ _. s; month = λ e. absurd (true≢false (sym e ∙ q)); kept = s.kept; onward = s.onward }

@@ -14,9 +14,10 @@ use Rattle.bank.specs.Calls.{statement, told, lines, lines_of, none_there}
 use Rattle.bank.proofs.Order.{in_order}
 use Rattle.model.proofs.ReachedRegister.{reached_bank}
 use Rattle.ledger.specs.Meaning.{bank, register, limits}
+use Rattle.ledger.specs.declared.Ledger.{Ledger}
 use Rattle.wire.proofs.Answers.{few_lines}
+use Rattle.desk.specs.Desk.{Kept}
 use Rattle.desk.specs.Statements.{lines_left}
-use Rattle.desk.specs.declared.Book.{Book}
 use Rattle.desk.specs.declared.statement.Statement.{Statement}
 
 -- is a booking a line of account a, from day d to day e
@@ -103,5 +104,5 @@ module _ (n : Bank) where
         ltb-false _ _ (rw (sym e) (p.1 i none_there.on (omega arith) (omega (arith, h, length-map n.bookings (λ b. b.on)))))
 
 -- bookings of a book stand in their order
-pub booked_in_order : (b : Book) → InOrder (bank b.ledger)
-booked_in_order b = ∥∥₁_elim b.reached (hlevel props) (λ r. in_order (bank b.ledger) (reached_bank (limits b.ledger) (register b.ledger) r))
+pub booked_in_order : (g : Ledger) → Kept g → InOrder (bank g)
+booked_in_order g k = ∥∥₁_elim k.reached (hlevel props) (λ r. in_order (bank g) (reached_bank (limits g) (register g) r))

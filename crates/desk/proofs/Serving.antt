@@ -23,12 +23,24 @@ use Rattle.model.proofs.ReachedRegister.{reached_under, register_idle, register_
 use Rattle.ledger.specs.Meaning.{bank, rates_set, register, limits, sets_by}
 use Rattle.ledger.specs.Made.{Made, Becomes}
 use Rattle.ledger.specs.declared.Ledger.{Ledger}
-use Rattle.desk.specs.Desk.{HandsOn, Served, Asked, AskedFirst, ServedFirst}
+use Rattle.desk.specs.Desk.{HandsOn, Kept, Onward, Served, Asked, AskedFirst, ServedFirst}
 use Rattle.desk.specs.declared.Book.{Book}
 
 -- what always holds of a book, of its ledger
-abbrev pub KeptBook : Ledger → Type 0
-KeptBook g = record { allows : allowed (limits g) ≡ true; reached : ∥ ReachedRegister (limits g) (register g) ∥₁ }
+pub book_kept : (b : Book) → Kept b.ledger
+book_kept b = record { allows = b.allows; reached = b.reached }
+
+-- calls can be taken on what the calls of g go on to
+pub still_kept : (g h : Ledger) → Kept g → limits h ≡ limits g → Onward g h → Kept h
+still_kept g h k e o = record { allows = ap allowed e ∙ k.allows; reached = ∥∥₁_map k.reached o }
+
+-- one call more goes on to what it leaves
+pub onward_by : (g h : Ledger) (c : Call) → limits h ≡ limits g → register h ≡ register_after (limits g) (register g) c → Onward g h
+onward_by g h c e a r =
+    subst (λ (l : Limits). ReachedRegister l (register h)) (sym e) (
+      r.0 ++ (c ∷ []),
+      ran_snoc (register_book (limits g)) new_register r.0 c ∙ ap (λ (k : Register). register_after (limits g) k c) r.1 ∙ sym a,
+    )
 
 -- a test hands on a value where it is passed
 pub handed_on : (o : Option ℕ) (x : ℕ) (b : Bool) → o ≡ then_some b x → HandsOn o x b
@@ -70,69 +82,55 @@ all_numbered l n sums = refl
 all_numbered l n taken_so_far = refl
 all_numbered l n (garbled k) = refl
 
-module _ (b : Book) (c : Call) where
-  -- the checks of the call, which are all to be made
-  abbrev pub all_checks : List Check
-  all_checks = room_checks (limits b.ledger) (bank b.ledger) c
+-- the checks of a call, which are all to be made
+abbrev pub all_checks : Ledger → Call → List Check
+all_checks g c = room_checks (limits g) (bank g) c
 
-  begun : Unchecked (limits b.ledger) (bank b.ledger) c all_checks
+module _ (g : Ledger) (k : Kept g) (c : Call) where
+  -- all checks are to be made
+  pub begun : Unchecked (limits g) (bank g) c (all_checks g c)
   begun =
-      ∥∥₁_elim b.reached (hlevel props)
-      (λ r. unchecked (limits b.ledger) (bank b.ledger) c (allowed_parts (limits b.ledger) b.allows).two (reached_under (limits b.ledger) (register b.ledger) r))
+      ∥∥₁_elim k.reached (hlevel props)
+      (λ r. unchecked (limits g) (bank g) c (allowed_parts (limits g) k.allows).two (reached_under (limits g) (register g) r))
 
-  pub all_pass : Passed all_checks → Taken (limits b.ledger) (bank b.ledger) c
-  all_pass p = taken_all (limits b.ledger) (bank b.ledger) c all_checks begun p
+  pub all_pass : Passed (all_checks g c) → Taken (limits g) (bank g) c
+  all_pass p = taken_all (limits g) (bank g) c (all_checks g c) begun p
 
-  turned : (k : ℕ) → Passed (take k all_checks) → (check_at all_checks k).passes ≡ false → Turned (limits b.ledger) (bank b.ledger) c (check_at all_checks k).number (check_at all_checks k).place
-  turned k p e = turned_at (limits b.ledger) (bank b.ledger) c all_checks k begun (all_numbered (limits b.ledger) (bank b.ledger) c) p e
+  turned : (i : ℕ) → Passed (take i (all_checks g c)) → (check_at (all_checks g c) i).passes ≡ false → Turned (limits g) (bank g) c (check_at (all_checks g c) i).number (check_at (all_checks g c) i).place
+  turned i p e = turned_at (limits g) (bank g) c (all_checks g c) i begun (all_numbered (limits g) (bank g) c) p e
 
   -- a call that is turned away leaves everything
-  pub served_turned : (k : ℕ) → Passed (take k all_checks) → (check_at all_checks k).passes ≡ false → Served b.ledger b.ledger c (refused (check_at all_checks k).number (check_at all_checks k).place) false
-  served_turned k p e =
-      let t = turned k p e in
-      record { after_is = sym (register_idle (limits b.ledger) (register b.ledger) c t.idle); told_is = sym t.away; did_is = sym t.idle; limits_stay = refl }
+  pub served_turned : (i : ℕ) → Passed (take i (all_checks g c)) → (check_at (all_checks g c) i).passes ≡ false → Served g g c (refused (check_at (all_checks g c) i).number (check_at (all_checks g c) i).place) false
+  served_turned i p e =
+      let t = turned i p e in
+      record { after_is = sym (register_idle (limits g) (register g) c t.idle); told_is = sym t.away; did_is = sym t.idle; kept = k; onward = λ r. r; limits_stay = refl }
 
-  pub asked_turned : (k : ℕ) → Passed (take k all_checks) → (check_at all_checks k).passes ≡ false → Asked b.ledger c (refused (check_at all_checks k).number (check_at all_checks k).place)
-  asked_turned k p e =
-      let t = turned k p e in record { told_is = sym t.away; same = register_idle (limits b.ledger) (register b.ledger) c t.idle; idle = t.idle }
+  pub asked_turned : (i : ℕ) → Passed (take i (all_checks g c)) → (check_at (all_checks g c) i).passes ≡ false → Asked g c (refused (check_at (all_checks g c) i).number (check_at (all_checks g c) i).place)
+  asked_turned i p e =
+      let t = turned i p e in record { told_is = sym t.away; same = register_idle (limits g) (register g) c t.idle; idle = t.idle }
 
   -- a question that is answered
-  pub asked_taken : (a : Answer) → Passed all_checks → asks c ≡ true → a ≡ told (bank b.ledger) c → Asked b.ledger c a
+  pub asked_taken : (a : Answer) → Passed (all_checks g c) → asks c ≡ true → a ≡ told (bank g) c → Asked g c a
   asked_taken a p q t =
       let e = all_pass p in
-      let i : changes (limits b.ledger) (bank b.ledger) c ≡ false = e.does ∙ ap not q in
-      record { told_is = t ∙ sym e.says; same = register_idle (limits b.ledger) (register b.ledger) c i; idle = i }
+      let i : changes (limits g) (bank g) c ≡ false = e.does ∙ ap not q in
+      record { told_is = t ∙ sym e.says; same = register_idle (limits g) (register g) c i; idle = i }
 
   -- a call that is taken makes its one effect, and is counted
-  pub served_made : (f h : Ledger) (x : Effect) (a : Answer) → Passed all_checks → asks c ≡ false → effects (bank b.ledger) c ≡ x ∷ [] →
-      sets_by (bank b.ledger) x ≡ sets (bank b.ledger) c → Made b.ledger f x → Becomes f h (counted (bank f)) → a ≡ told (bank b.ledger) c → Served b.ledger h c a true
+  pub served_made : (f h : Ledger) (x : Effect) (a : Answer) → Passed (all_checks g c) → asks c ≡ false → effects (bank g) c ≡ x ∷ [] →
+      sets_by (bank g) x ≡ sets (bank g) c → Made g f x → Becomes f h (counted (bank f)) → a ≡ told (bank g) c → Served g h c a true
   served_made f h x a p q one rates m d t =
       let e = all_pass p in
-      record {
-        after_is = (let x = bank_after in let y = rates_after in let z = register_taken (limits b.ledger) (register b.ledger) c e.by_none in cc);
-        told_is = t ∙ sym e.says;
-        did_is = sym (e.does ∙ ap not q);
-        limits_stay = d.limits_stay ∙ m.limits_stay;
-      }
+      let after : register h ≡ register_after (limits g) (register g) c = (let x = bank_after in let y = rates_after in let z = register_taken (limits g) (register g) c e.by_none in cc) in
+      let stay : limits h ≡ limits g = d.limits_stay ∙ m.limits_stay in
+      let onward = onward_by g h c stay after in
+      record { after_is = after; told_is = t ∙ sym e.says; did_is = sym (e.does ∙ ap not q); kept = still_kept g h k stay onward; onward = onward; limits_stay = stay }
     where
-      bank_after : bank h ≡ changed (bank b.ledger) c
-      bank_after = d.bank_is ∙ ap counted m.bank_is ∙ sym (by_effects.changes (bank b.ledger) c ∙ ap (performed (bank b.ledger)) one)
+      bank_after : bank h ≡ changed (bank g) c
+      bank_after = d.bank_is ∙ ap counted m.bank_is ∙ sym (by_effects.changes (bank g) c ∙ ap (performed (bank g)) one)
 
-      rates_after : rates_set h ≡ rates_set b.ledger ++ sets (bank b.ledger) c
-      rates_after = d.rates_are ∙ m.rates_are ∙ ap (λ (xs : List Dated). rates_set b.ledger ++ xs) rates
-
-  -- calls can be taken on what a call leaves
-  pub still_kept : (h : Ledger) (a : Answer) (did : Bool) → Served b.ledger h c a did → KeptBook h
-  still_kept h a did s =
-      record {
-        allows = ap allowed s.limits_stay ∙ b.allows;
-        reached =
-            ∥∥₁_map b.reached
-            (λ r. subst (λ (l : Limits). ReachedRegister l (register h)) (sym s.limits_stay) (
-              r.0 ++ (c ∷ []),
-              ran_snoc (register_book (limits b.ledger)) new_register r.0 c ∙ ap (λ (k : Register). register_after (limits b.ledger) k c) r.1 ∙ sym s.after_is,
-            ));
-      }
+      rates_after : rates_set h ≡ rates_set g ++ sets (bank g) c
+      rates_after = d.rates_are ∙ m.rates_are ∙ ap (λ (xs : List Dated). rates_set g ++ xs) rates
 
 -- a question of the first stage, by the code's call
 pub asked_first : (g : Ledger) (d c : Call) (a : Answer) → d ≡ c → (plain c && asks c) ≡ true → Asked g c a → AskedFirst g d a
@@ -146,12 +144,15 @@ other_first g c a p t = record { asked = λ q. absurd (true≢false (sym q ∙ p
 pub first_served : (g h : Ledger) (d c : Call) (a b : Answer) (did did' : Bool) → d ≡ c → plain c ≡ true → a ≡ b → did ≡ did' → Served g h c b did' → ServedFirst g h d a did
 first_served g h d c a b did did' e p x y s =
     subst (λ (x : Call). ServedFirst g h x a did) (sym e)
-    (record { after_is = rw p s.after_is; told_is = rw p (x ∙ s.told_is); did_is = rw p (y ∙ s.did_is); limits_stay = s.limits_stay })
+    (record { after_is = rw p s.after_is; told_is = rw p (x ∙ s.told_is); did_is = rw p (y ∙ s.did_is); kept = s.kept; onward = s.onward; limits_stay = s.limits_stay })
 
 -- a question, or a call that is not there yet
-pub first_asked : (g : Ledger) (d c : Call) (a : Answer) → d ≡ c → AskedFirst g d a → (plain c ≡ true → asks c ≡ true) → ServedFirst g g c a false
-first_asked g d c a e s q = go (plain c) refl (subst (λ (x : Call). AskedFirst g x a) e s)
+pub first_asked : (g : Ledger) (d c : Call) (a : Answer) → Kept g → d ≡ c → AskedFirst g d a → (plain c ≡ true → asks c ≡ true) → ServedFirst g g c a false
+first_asked g d c a k e s q = go (plain c) refl (subst (λ (x : Call). AskedFirst g x a) e s)
   where
     go : (b : Bool) → plain c ≡ b → AskedFirst g c a → ServedFirst g g c a false
-    go true p r = let t = r.asked (and_from _ _ p (q p)) in record { after_is = rw p (sym t.same); told_is = rw p t.told_is; did_is = rw p (sym t.idle); limits_stay = refl }
-    go false p r = record { after_is = rw p refl; told_is = rw p (r.other (and_left _ _ p)); did_is = rw p refl; limits_stay = refl }
+    go true p r =
+        let t = r.asked (and_from _ _ p (q p)) in
+        record { after_is = rw p (sym t.same); told_is = rw p t.told_is; did_is = rw p (sym t.idle); kept = k; onward = λ r. r; limits_stay = refl }
+    go false p r =
+        record { after_is = rw p refl; told_is = rw p (r.other (and_left _ _ p)); did_is = rw p refl; kept = k; onward = λ r. r; limits_stay = refl }

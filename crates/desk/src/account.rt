@@ -1,11 +1,12 @@
 // Accounts: opening one with a limit and a rate, and setting a rate.
 ghost use Rattle.std.specs.Prelude.{nat_le};
 ghost use Rattle.bank.specs.Calls.{opens, rated};
-ghost use Rattle.desk.specs.Desk.{HandsOn, Served, reply, took};
+ghost use Rattle.desk.specs.Desk.{HandsOn, Kept, Served, reply, took};
 
 use crate::refusal::Refusal;
 use crate::{Book, MOST};
 use columns::rates::Rate;
+use ledger::Ledger;
 use wire::answer::Answer;
 
 // The highest yearly rate, in hundredths of a per cent.
@@ -25,45 +26,61 @@ fn rate_of(rate: u64) -> Option<u32>
     (rate <= MOST_RATE).then(|| rate as u32)
 }
 
+// Opens an account with a limit and a rate from today on.
+pub fn open(ledger: &mut Ledger, limit: u64, rate: u64) -> Result<Answer, Refusal>
+    requires { Kept ledger.old }
+    ensures { Served ledger.old ledger.new (opens limit rate) (reply result) (took result) }
+{
+    let Some(limit) = allowable(limit) else {
+        return Err(Refusal::Limit);
+    };
+    let Some(rate) = rate_of(rate) else {
+        return Err(Refusal::Rate);
+    };
+    let Some(rate) = ledger.has_room_for_account().then_some(rate) else {
+        return Err(Refusal::NoRoom);
+    };
+    let number = ledger.add_account(limit, rate);
+    ledger.count_call();
+    Ok(Answer::Number(number as u64))
+}
+
+// Sets the rate of an account from today on.
+pub fn set_rate(ledger: &mut Ledger, account: u64, rate: u64) -> Result<Answer, Refusal>
+    requires { Kept ledger.old }
+    ensures { Served ledger.old ledger.new (rated account rate) (reply result) (took result) }
+{
+    let Some(rate) = rate_of(rate) else {
+        return Err(Refusal::Rate);
+    };
+    let Some(account) = ledger.account(account) else {
+        return Err(Refusal::Account { field: 0 });
+    };
+    let Some(rate) = ledger.has_room_for_rate().then_some(rate) else {
+        return Err(Refusal::NoRoom);
+    };
+    let since = ledger.today();
+    ledger.add_rate(Rate {
+        account,
+        since,
+        rate,
+    });
+    ledger.count_call();
+    Ok(Answer::Number(0))
+}
+
 impl Book<'_> {
     // Opens an account with a limit and a rate from today on.
     pub fn open_account(&mut self, limit: u64, rate: u64) -> Result<Answer, Refusal>
         ensures { Served self.old.ledger self.new.ledger (opens limit rate) (reply result) (took result) }
     {
-        let Some(limit) = allowable(limit) else {
-            return Err(Refusal::Limit);
-        };
-        let Some(rate) = rate_of(rate) else {
-            return Err(Refusal::Rate);
-        };
-        let Some(rate) = self.ledger.has_room_for_account().then_some(rate) else {
-            return Err(Refusal::NoRoom);
-        };
-        let number = self.ledger.add_account(limit, rate);
-        self.ledger.count_call();
-        Ok(Answer::Number(number as u64))
+        open(&mut self.ledger, limit, rate)
     }
 
     // Sets the rate of an account from today on.
     pub fn set_rate(&mut self, account: u64, rate: u64) -> Result<Answer, Refusal>
         ensures { Served self.old.ledger self.new.ledger (rated account rate) (reply result) (took result) }
     {
-        let Some(rate) = rate_of(rate) else {
-            return Err(Refusal::Rate);
-        };
-        let Some(account) = self.ledger.account(account) else {
-            return Err(Refusal::Account { field: 0 });
-        };
-        let Some(rate) = self.ledger.has_room_for_rate().then_some(rate) else {
-            return Err(Refusal::NoRoom);
-        };
-        let since = self.ledger.today();
-        self.ledger.add_rate(Rate {
-            account,
-            since,
-            rate,
-        });
-        self.ledger.count_call();
-        Ok(Answer::Number(0))
+        set_rate(&mut self.ledger, account, rate)
     }
 }

@@ -8,21 +8,21 @@ ghost use Rattle.model.specs.Whole.{ReachedRegister};
 ghost use Rattle.ledger.specs.Meaning.{limits, register};
 ghost use Rattle.wire.specs.Answered.{answered};
 ghost use Rattle.wire.specs.Meaning.{meant};
-ghost use Rattle.desk.specs.Desk.{AskedFirst, OutcomeOf, ServedFirst, answer_in, changed_in, reply, took};
+ghost use Rattle.desk.specs.Desk.{AskedFirst, Kept, OutcomeOf, ServedFirst, answer_in, changed_in, reply, took};
 
 use ledger::Ledger;
 use refusal::Refusal;
 use wire::answer::Answer;
 use wire::call::Call;
 
-mod account;
-mod day;
-mod opening;
-mod order;
+pub mod account;
+pub mod day;
+pub mod opening;
+pub mod order;
 mod question;
 pub mod refusal;
 pub mod statement;
-mod taking_back;
+pub mod taking_back;
 
 // The most cents that an order moves, that a limit has, and that orders bring to one account.
 const MOST: u64 = 100_000_000_000;
@@ -72,6 +72,48 @@ impl From<Result<Answer, Refusal>> for Outcome {
     }
 }
 
+// Answers a question of the first stage, or turns it away; a call that is none of these is not there yet.
+fn asked(ledger: &Ledger, call: Call) -> Result<Answer, Refusal>
+    requires { Kept ledger.now }
+    ensures { AskedFirst ledger.now (meant call) (reply result) }
+{
+    match call {
+        Call::Balance {
+            account,
+            value,
+            known,
+        } => question::balance(ledger, account, value, known),
+        Call::Sums => Ok(question::sums(ledger)),
+        Call::Taken => Ok(question::taken(ledger)),
+        _ => Err(Refusal::NotYet),
+    }
+}
+
+// Answers a question of the first stage; a call that is none of these is not there yet.
+pub fn ask(ledger: &Ledger, call: Call) -> Answer
+    requires { Kept ledger.now }
+    ensures { AskedFirst ledger.now (meant call) (answered result []) }
+{
+    asked(ledger, call).unwrap_or_else(Answer::from)
+}
+
+// Takes a call of the first stage, or turns it away. Calls of a later stage are not there yet.
+pub fn take(ledger: &mut Ledger, call: Call) -> Outcome
+    requires { Kept ledger.old }
+    ensures { ServedFirst ledger.old ledger.new (meant call) (answered (answer_in result) []) (changed_in result) }
+{
+    match call {
+        Call::Open { limit, rate } if rate == 0 => account::open(ledger, limit, rate).into(),
+        Call::Move {
+            value,
+            from,
+            to,
+            amount,
+        } if value == 0 => order::order(ledger, value, from, to, amount).into(),
+        _ => Outcome::Unchanged(ask(ledger, call)),
+    }
+}
+
 impl<'a> Book<'a> {
     // What stands in the book, to be looked at.
     pub fn ledger(&self) -> &Ledger<'a>
@@ -80,42 +122,17 @@ impl<'a> Book<'a> {
         &self.ledger
     }
 
-    // Answers a question of the first stage, or turns it away; a call that is none of these is not there yet.
-    fn asked(&self, call: Call) -> Result<Answer, Refusal>
-        ensures { AskedFirst self.now.ledger (meant call) (reply result) }
-    {
-        match call {
-            Call::Balance {
-                account,
-                value,
-                known,
-            } => self.balance(account, value, known),
-            Call::Sums => Ok(self.sums()),
-            Call::Taken => Ok(self.taken()),
-            _ => Err(Refusal::NotYet),
-        }
-    }
-
     // Answers a question of the first stage; a call that is none of these is not there yet.
     pub fn ask(&self, call: Call) -> Answer
         ensures { AskedFirst self.now.ledger (meant call) (answered result []) }
     {
-        self.asked(call).unwrap_or_else(Answer::from)
+        ask(&self.ledger, call)
     }
 
     // Takes a call of the first stage, or turns it away. Calls of a later stage are not there yet.
     pub fn take(&mut self, call: Call) -> Outcome
         ensures { ServedFirst self.old.ledger self.new.ledger (meant call) (answered (answer_in result) []) (changed_in result) }
     {
-        match call {
-            Call::Open { limit, rate } if rate == 0 => self.open_account(limit, rate).into(),
-            Call::Move {
-                value,
-                from,
-                to,
-                amount,
-            } if value == 0 => self.order(value, from, to, amount).into(),
-            _ => Outcome::Unchanged(self.ask(call)),
-        }
+        take(&mut self.ledger, call)
     }
 }

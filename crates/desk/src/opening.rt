@@ -5,12 +5,26 @@ ghost use Rattle.model.specs.Whole.{ReachedRegister};
 ghost use Rattle.columns.specs.Sizes.{limits_of};
 ghost use Rattle.ledger.specs.Meaning.{limits, register};
 ghost use Rattle.ledger.specs.Opened.{Opened};
+ghost use Rattle.desk.specs.Desk.{OpenedKept};
 ghost use Rattle.desk.specs.Opening.{ledger_of};
 
 use crate::Book;
 use columns::limits::Limits;
 use ledger::Ledger;
 use ledger::opening::Refused;
+
+// Opens a new book in lent memory, as a ledger on which calls can be taken.
+#[tactic(auto, using(crate::proofs::Beginning::opened_kept))]
+pub fn open<'a>(
+    limits: Limits,
+    cents: &'a mut [u64],
+    numbers: &'a mut [u32],
+) -> Result<Ledger<'a>, Refused<'a>>
+    ensures opened { Opened (limits_of limits) cents.old numbers.old result }
+    ensures kept { OpenedKept result }
+{
+    Ledger::open(limits, cents, numbers)
+}
 
 impl<'a> Book<'a> {
     // Opens a new book in lent memory.
@@ -19,9 +33,10 @@ impl<'a> Book<'a> {
         cents: &'a mut [u64],
         numbers: &'a mut [u32],
     ) -> Result<Book<'a>, Refused<'a>>
-        ensures { Opened (limits_of limits) cents.old numbers.old (ledger_of result) }
+        ensures opened { Opened (limits_of limits) cents.old numbers.old (ledger_of result) }
+        ensures kept { OpenedKept (ledger_of result) }
     {
-        let ledger = Ledger::open(limits, cents, numbers)?;
+        let ledger = open(limits, cents, numbers)?;
         Ok(Book { ledger })
     }
 

@@ -2,10 +2,12 @@
 ghost use Rattle.std.specs.Prelude.{◌≡◌, ℕ, ◌<◌, ◌≤◌, ◌&&◌, ◌||◌, length, ◌==◌, nat_le};
 ghost use Rattle.bank.specs.Builders.{booking_at};
 ghost use Rattle.ledger.specs.Meaning.{bank};
+ghost use Rattle.desk.specs.Desk.{Kept};
 ghost use Rattle.desk.specs.Statements.{lines_left, Stated, Handed};
 
 use crate::Book;
 use crate::refusal::Refusal;
+use ledger::Ledger;
 use wire::booking::Booking;
 
 // What a statement has yet to hand out: the bookings of an account, from one on, that were booked on some days. It is held between acts beside the book, which it does not
@@ -19,29 +21,31 @@ pub struct Statement {
 }
 
 // The first booking of a day or a later one, or how many there are where there is none. Bookings stand in the order in which they were booked.
-fn first_booked(book: &Book, day: u64) -> usize
-    ensures within { result ≤ length (bank book.now.ledger).bookings }
-    ensures before { (k : ℕ) → k < result → (booking_at (bank book.now.ledger) k).on < day }
-    ensures from { result < length (bank book.now.ledger).bookings → day ≤ (booking_at (bank book.now.ledger) result).on }
+fn first_booked(ledger: &Ledger, day: u64) -> usize
+    requires { Kept ledger.now }
+    ensures within { result ≤ length (bank ledger.now).bookings }
+    ensures before { (k : ℕ) → k < result → (booking_at (bank ledger.now) k).on < day }
+    ensures from { result < length (bank ledger.now).bookings → day ≤ (booking_at (bank ledger.now) result).on }
 {
-    book.ledger
+    ledger
         .booked_days()
         .partition_point(|on| (*on as u64) < day)
 }
 
 impl Statement {
     // Begins a statement of an account, of what was booked from a first day to a last.
-    pub fn begin(book: &Book, account: u64, first: u64, last: u64) -> Result<Statement, Refusal>
-        ensures { Stated book.now.ledger account first last result }
+    pub fn begin(ledger: &Ledger, account: u64, first: u64, last: u64) -> Result<Statement, Refusal>
+        requires { Kept ledger.now }
+        ensures { Stated ledger.now account first last result }
     {
-        let Some(account) = book.ledger.account(account) else {
+        let Some(account) = ledger.account(account) else {
             return Err(Refusal::Account { field: 0 });
         };
         Ok(Statement {
             account,
             first,
             last,
-            next: first_booked(book, first) as u64,
+            next: first_booked(ledger, first) as u64,
         })
     }
 
@@ -55,10 +59,11 @@ impl Statement {
 
     // Hands out the next line, if there is one.
     #[tactic(auto, using(ledger::proofs::Bank::bank_count))]
-    pub fn next_line(&mut self, book: &Book) -> Option<Booking>
-        ensures { Handed (bank book.now.ledger) self.old self.new result }
+    pub fn next_line(&mut self, ledger: &Ledger) -> Option<Booking>
+        requires { Kept ledger.now }
+        ensures { Handed (bank ledger.now) self.old self.new result }
     {
-        while let Some(booking) = book.ledger.find_booking(self.next) {
+        while let Some(booking) = ledger.find_booking(self.next) {
             if self.last < booking.on as u64 {
                 return None;
             }
@@ -72,14 +77,38 @@ impl Statement {
 
     // How many lines it has yet to hand out.
     #[tactic(auto, using(ledger::proofs::Bank::bank_count, crate::proofs::Lines::left_few))]
-    pub fn count(self, book: &Book) -> u64
-        ensures { result ≡ length (lines_left (bank book.now.ledger) self) }
+    pub fn count(self, ledger: &Ledger) -> u64
+        requires { Kept ledger.now }
+        ensures { result ≡ length (lines_left (bank ledger.now) self) }
     {
         let mut rest = self;
         let mut count = 0;
-        while let Some(_) = rest.next_line(book) {
+        while let Some(_) = rest.next_line(ledger) {
             count += 1;
         }
         count
+    }
+}
+
+impl Book<'_> {
+    // Begins a statement of an account, of what was booked from a first day to a last.
+    pub fn statement(&self, account: u64, first: u64, last: u64) -> Result<Statement, Refusal>
+        ensures { Stated self.now.ledger account first last result }
+    {
+        Statement::begin(&self.ledger, account, first, last)
+    }
+
+    // Hands out the next line of a statement, if there is one.
+    pub fn next_line(&self, statement: &mut Statement) -> Option<Booking>
+        ensures { Handed (bank self.now.ledger) statement.old statement.new result }
+    {
+        statement.next_line(&self.ledger)
+    }
+
+    // How many lines a statement has yet to hand out.
+    pub fn line_count(&self, statement: Statement) -> u64
+        ensures { result ≡ length (lines_left (bank self.now.ledger) statement) }
+    {
+        statement.count(&self.ledger)
     }
 }

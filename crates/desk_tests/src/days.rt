@@ -1,66 +1,91 @@
 // Days, value days, what was known when, taking back, rates and statements; how books went wrong before.
+ghost use Rattle.desk.specs.Desk.{Kept, Onward};
+
 use crate::rows::*;
-use desk::Book;
 use desk::refusal::Refusal;
 use desk::statement::Statement;
+use desk::{account, ask, day, opening, order, taking_back};
 use ledger::Ledger;
 use std::process::Abort;
 use wire::answer::Answer;
 use wire::call::Call;
 
 // How many lines a statement has.
-fn statement(book: &Book, account: u64, first: u64, last: u64) -> Result<Answer, Refusal> {
-    let begun = Statement::begin(book, account, first, last)?;
+fn statement(ledger: &Ledger, account: u64, first: u64, last: u64) -> Result<Answer, Refusal>
+    requires { Kept ledger.now }
+{
+    let begun = Statement::begin(ledger, account, first, last)?;
     Ok(Answer::Lines {
-        count: begun.count(book),
+        count: begun.count(ledger),
     })
 }
 
-// Takes a call of any stage.
-fn take_any(book: &mut Book, call: Call) -> Answer {
-    let res = match call {
-        Call::Open { limit, rate } => book.open_account(limit, rate),
-        Call::Rate { account, rate } => book.set_rate(account, rate),
+// Takes a call of any stage, or turns it away.
+fn serve(ledger: &mut Ledger, call: Call) -> Result<Answer, Refusal>
+    requires { Kept ledger.old }
+    ensures kept { Kept ledger.new }
+    ensures onward { Onward ledger.old ledger.new }
+{
+    match call {
+        Call::Open { limit, rate } => account::open(ledger, limit, rate),
+        Call::Rate { account, rate } => account::set_rate(ledger, account, rate),
         Call::Move {
             value,
             from,
             to,
             amount,
-        } => book.order(value, from, to, amount),
-        Call::TakeBack { booking } => book.take_back(booking),
-        Call::DayEnds => book.end_day(),
+        } => order::order(ledger, value, from, to, amount),
+        Call::TakeBack { booking } => taking_back::take_back(ledger, booking),
+        Call::DayEnds => day::end_day(ledger),
         Call::Statement {
             account,
             first,
             last,
-        } => statement(book, account, first, last),
-        _ => Ok(book.ask(call)),
-    };
-    res.unwrap_or_else(Answer::from)
+        } => statement(ledger, account, first, last),
+        _ => Ok(ask(ledger, call)),
+    }
+}
+
+// Takes a call of any stage: its answer.
+fn take_any(ledger: &mut Ledger, call: Call) -> Answer
+    requires { Kept ledger.old }
+    ensures kept { Kept ledger.new }
+    ensures onward { Onward ledger.old ledger.new }
+{
+    serve(ledger, call).unwrap_or_else(Answer::from)
 }
 
 // Takes the calls of a table one after another: each has its answer.
-fn take_each(rt: &impl Abort, book: &mut Book, rows: &[Row]) {
+fn take_each(rt: &impl Abort, ledger: &mut Ledger, rows: &[Row])
+    requires { Kept ledger.old }
+    ensures kept { Kept ledger.new }
+    ensures onward { Onward ledger.old ledger.new }
+{
     for row in rows {
         let (ask, numbers, answer) = *row;
-        assert_eq!(rt; told(take_any(book, call_of(ask, numbers))), answer);
+        assert_eq!(rt; told(take_any(ledger, call_of(ask, numbers))), answer);
     }
 }
 
 // The lines of a statement: amount, value day, day on which it was booked, and mark.
-const LINES: [(u64, u32, u32, Option<u32>); 2] = [(400_000, 0, 1, Some(2)), (5_000, 2, 2, None)];
+pub const LINES: [(u64, u32, u32, Option<u32>); 2] = [
+    (400_000, 0, 1, Some(2)),
+    (5_000, 2, 2, None),
+];
 
 // A statement hands out these lines, oldest first, and then no more.
-fn check_lines(rt: &impl Abort, book: &Book, mut statement: Statement) {
+fn check_lines(rt: &impl Abort, ledger: &Ledger, mut statement: Statement)
+    requires { Kept ledger.now }
+{
     for line in &LINES {
-        let b = statement.next_line(book).expect(rt, "a line");
+        let b = statement.next_line(ledger).expect(rt, "a line");
         assert_eq!(rt; (b.amount, b.value, b.on, b.back), *line);
     }
-    assert_eq!(rt; statement.count(book), 0);
-    assert!(rt; statement.next_line(book).is_none());
+    assert_eq!(rt; statement.count(ledger), 0);
+    assert!(rt; statement.next_line(ledger).is_none());
 }
 
-const DAYS: [Row; 48] = [
+pub const DAYS: [Row; 48] = [
     (Ask::Open, [0, 2_001, 0, 0], [0, 2, 1]),
     (Ask::Open, [0, 365, 0, 0], [1, 2, 0]),
     (Ask::Open, [5_000, 2_000, 0, 0], [1, 3, 0]),
@@ -117,14 +142,14 @@ const DAYS: [Row; 48] = [
 fn days_and_what_was_known(rt: HostRuntime) {
     let mut cents = [0u64; 64];
     let mut numbers = [0u32; 128];
-    let Ok(mut book) = Book::open(limits(4, 4, 4), &mut cents, &mut numbers) else {
+    let Ok(mut ledger) = opening::open(limits(4, 4, 4), &mut cents, &mut numbers) else {
         panic!(rt; "no book");
     };
-    take_each(&rt, &mut book, &DAYS);
-    let statement = Statement::begin(&book, 3, 1, 2)
+    take_each(&rt, &mut ledger, &DAYS);
+    let statement = Statement::begin(&ledger, 3, 1, 2)
         .ok()
         .expect(&rt, "a statement");
-    check_lines(&rt, &book, statement);
+    check_lines(&rt, &ledger, statement);
 }
 
 // Begins days of a book, month by month, with no interest booked.
@@ -156,8 +181,8 @@ fn check_value_days(rt: &impl Abort, ledger: &Ledger) {
 fn value_days(rt: HostRuntime) {
     let mut cents = [0u64; 64];
     let mut numbers = [0u32; 128];
-    let Ok(mut ledger) = Ledger::open(limits(2, 0, 0), &mut cents, &mut numbers) else {
-        panic!(rt; "no ledger");
+    let Ok(mut ledger) = opening::open(limits(2, 0, 0), &mut cents, &mut numbers) else {
+        panic!(rt; "no book");
     };
     pass_days(&mut ledger, 61);
     check_value_days(&rt, &ledger);

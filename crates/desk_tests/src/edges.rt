@@ -1,6 +1,6 @@
 // Each refusal, and the last call before it that is taken.
 use crate::rows::*;
-use desk::Book;
+use desk::opening;
 
 // The most cents of an order, of a limit, and of all orders to one account.
 const MOST: u64 = 100_000_000_000;
@@ -106,7 +106,7 @@ fn later_stages(rt: HostRuntime) {
 fn opens(accounts: u32, rates: u32, bookings: u32) -> Option<u64> {
     let mut cents = [0u64; 36];
     let mut numbers = [0u32; 60];
-    match Book::open(limits(accounts, rates, bookings), &mut cents, &mut numbers) {
+    match opening::open(limits(accounts, rates, bookings), &mut cents, &mut numbers) {
         Ok(_) => None,
         Err(refused) => Some(refused.misfit.place()),
     }

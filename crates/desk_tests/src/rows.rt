@@ -6,8 +6,11 @@
 // | 1 | a number | the number | 0 |
 // | 2 | amounts | what came | what left |
 // | 3 | lines | how many | 0 |
+ghost use Rattle.desk.specs.Desk.{Kept, Onward};
+
 use columns::limits::Limits;
-use desk::Book;
+use desk::{opening, take};
+use ledger::Ledger;
 use std::process::Abort;
 use wire::answer::Answer;
 use wire::call::Call;
@@ -80,14 +83,18 @@ fn changes(ask: Ask, answer: [u64; 3]) -> bool {
 }
 
 // Takes the calls of a table one after another: each has its answer, and is counted only if it changes the book.
-fn take_all(rt: &impl Abort, book: &mut Book, rows: &[Row]) {
+fn take_all(rt: &impl Abort, ledger: &mut Ledger, rows: &[Row])
+    requires { Kept ledger.old }
+    ensures kept { Kept ledger.new }
+    ensures onward { Onward ledger.old ledger.new }
+{
     for row in rows {
         let (ask, numbers, answer) = *row;
-        let done = book.ledger().done();
-        let outcome = book.take(call_of(ask, numbers));
+        let done = ledger.done();
+        let outcome = take(ledger, call_of(ask, numbers));
         assert_eq!(rt; told(outcome.answer()), answer);
         assert_eq!(rt; outcome.changed(), changes(ask, answer));
-        assert_eq!(rt; book.ledger().done() > done, outcome.changed());
+        assert_eq!(rt; ledger.done() > done, outcome.changed());
     }
 }
 
@@ -95,10 +102,10 @@ fn take_all(rt: &impl Abort, book: &mut Book, rows: &[Row]) {
 pub fn run(rt: &impl Abort, limits: Limits, rows: &[Row]) {
     let mut cents = [0u64; 64];
     let mut numbers = [0u32; 128];
-    let Ok(mut book) = Book::open(limits, &mut cents, &mut numbers) else {
+    let Ok(mut ledger) = opening::open(limits, &mut cents, &mut numbers) else {
         panic!(rt; "no book");
     };
-    take_all(rt, &mut book, rows);
+    take_all(rt, &mut ledger, rows);
 }
 
 // Limits that a book is opened with.

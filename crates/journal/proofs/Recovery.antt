@@ -1,47 +1,67 @@
 -- Recovery of a device that reads as calls, and room in its journal.
-use Rattle.std.proofs.Common.{◌≡◌, ℕ, zero, suc, ◌+◌, ◌-◌, ◌*◌, ◌<◌, ◌≤◌, true, false, List, [], ◌∷◌, ◌++◌, length, take, drop, replicate, sym, refl, ap, ◌∙◌, subst, inl, inr, append_assoc, append-nil, arith, length-append, length-drop, length-take}
+use Rattle.std.proofs.Common.{◌≡◌, ℕ, zero, suc, ◌+◌, ◌-◌, ◌*◌, ◌<◌, ◌≤◌, true, false, ltb, ltb-true, List, [], ◌∷◌, ◌++◌, length, take, drop, replicate, sym, refl, ap, ◌∙◌, subst, inl, inr, append_assoc, append-nil, arith, length-append, length-drop, length-take}
 use Rattle.std.proofs.lemmas.List.{drop-drop, drop_at, nil_from_length}
 use Rattle.std.proofs.lemmas.Bool.{and_parts, cases_Bool, cases_eq}
 use Rattle.std.proofs.lemmas.Bool.Decides.{nat_tests}
 use Rattle.wire.proofs.Rows.{remembers}
 use Rattle.device.specs.Device.{Device}
 use Rattle.device.specs.Book.{every}
-use Rattle.device.specs.Rows.{number_of, bytes_of, row_of, rows, rows_at, rows_in, block_of, row, with_bytes}
+use Rattle.device.specs.Rows.{number_of, bytes_of, row_of, rows, rows_at, rows_in, block_of, row, used_by, with_bytes}
 use Rattle.device.specs.Journal.{chunk, takes, noted, logged, HoldsBlock, HoldsJournal}
 use Rattle.device.specs.Resident.{how_many}
 use Rattle.device.proofs.Chunks.{every_take, every_drop, gathered_each}
 use Rattle.device.proofs.Journal.{Sound, room_left, sound_log, found}
 use Rattle.device.proofs.Resident.{how_many_is}
-use Rattle.device.proofs.Rows.{behind, row_of_length, rows_in_length}
+use Rattle.device.proofs.Rows.{behind, number_back, row_of_length, rows_in_length}
 use Rattle.bank.specs.Calls.{Call, Limits}
 use Rattle.bank.specs.Promise.{asks, room, allowed}
 use Rattle.model.specs.Core.{book}
-use Rattle.model.specs.First.{first_call, size, not_yet, journal_format, FirstReading}
+use Rattle.model.specs.First.{first_call, first_program, size, not_yet, journal_format, FirstReading}
 use Rattle.bank.specs.Count.{changes}
-use Rattle.model.specs.JournalBlock.{Head, head_row, head_for, head_in, headed, call_row, stored, journal_block, calls_in}
+use Rattle.model.specs.JournalBlock.{Head, head_row, head_for, head_in, headed, call_row, call_kind, stored, journal_block, calls_in}
 use Rattle.model.proofs.First.{first_grows, journal_reads_back}
 use Rattle.model.proofs.JournalBlock.{call_fits, journal_block_head, journal_block_headed}
 use Rattle.wire.specs.JournalRow.{kind_at}
-use Rattle.journal.specs.Recovery.{rows_of, later, accepts, TakenAfter, journal_in, FirstAccepted, FirstHasRoom}
+use Rattle.journal.specs.Recovery.{rows_of, later, accepts, TakenAfter, journal_in, FirstAccepted, FirstStarts, FirstHasRoom}
+use Rattle.journal.specs.Tail.{tail, Stands}
+use Rattle.journal.specs.declared.journal.Journal.{Journal}
 
--- the row of a call that is stored has a kind
-row_kind : (c : Call) (rest : List ℕ) → stored c ≡ true → (1 ≤ number_of 2 (row_of call_row c ++ rest)) × (number_of 2 (row_of call_row c ++ rest) ≤ 5)
+-- the row of a call begins with its kind
+row_kind : (c : Call) (rest : List ℕ) → stored c ≡ true → number_of 2 (row_of call_row c ++ rest) ≡ call_kind c
+unfolding row_of
 row_kind c rest h =
+    let tail : List ℕ = row (call_row.widths (call_kind c)) (call_row.to c) ++ replicate (20 - used_by call_row c) 0 in
+    ap (number_of 2) (append_assoc (bytes_of 2 (call_kind c)) tail rest)
+    ∙ number_back 2 (call_kind c) (tail ++ rest) (ltb-true (call_kind c) 65536 (and_parts (ltb (call_kind c) 65536) _ (call_fits c h)).0)
+
+-- a call that is stored has a kind that there is
+kind_there : (c : Call) → stored c ≡ true → (1 ≤ call_kind c) × (call_kind c ≤ 5)
+kind_there c h =
     let xs : List ℕ = row_of call_row c in
-    let e : with_bytes (xs ++ rest) 0 xs ≡ xs ++ rest = ap (λ (r : List ℕ). xs ++ r) (drop_at xs rest (0 + length xs) (omega arith)) in
-    let r = remembers (xs ++ rest) 0 c (omega (arith, length-append xs rest, row_of_length call_row c (call_fits c h))) h in
-    (rw e at r.1, rw e at r.2)
+    let e : with_bytes (xs ++ []) 0 xs ≡ xs ++ [] = ap (λ (r : List ℕ). xs ++ r) (drop_at xs [] (0 + length xs) (omega arith)) in
+    let r = remembers (xs ++ []) 0 c (omega (arith, length-append xs [], row_of_length call_row c (call_fits c h))) h in
+    (rw (e, row_kind c [] h) at r.1, rw (e, row_kind c [] h) at r.2)
 
 -- each row of some calls has its kind
 rows_kind : (cs : List Call) (i : ℕ) (rest : List ℕ) → every stored cs ≡ true → i < length cs →
     (1 ≤ number_of 2 (drop (20 * i) (rows call_row cs ++ rest))) × (number_of 2 (drop (20 * i) (rows call_row cs ++ rest)) ≤ 5)
 unfolding rows every
 rows_kind [] i rest h l = absurd (omega arith)
-rows_kind (c ∷ cs) zero rest h l = rw append_assoc (row_kind c (rows call_row cs ++ rest) (and_parts (stored c) (every stored cs) h).0)
+rows_kind (c ∷ cs) zero rest h l =
+    let q = and_parts (stored c) (every stored cs) h in
+    rw (append_assoc, row_kind c (rows call_row cs ++ rest) q.0) (kind_there c q.0)
 rows_kind (c ∷ cs) (suc i) rest h l =
     let q = and_parts (stored c) (every stored cs) h in
     let n : 20 * suc i ≡ 20 + 20 * i = omega arith in
     rw (n, append_assoc, ← drop-drop (20 * i) 20, behind (row_of call_row c) (rows call_row cs ++ rest) 20 (row_of_length call_row c (call_fits c q.0))) (rows_kind cs i rest q.1 (omega arith))
+
+-- what stands at the end of a device's calls has what the program is started with
+pub first_starts : (l : Limits) → FirstStarts l
+first_starts l d t count bytes n e = (n, e)
+
+-- so a journal that stands there
+pub first_journal_starts : (l : Limits) (d : Device) (j : Journal) → Stands j (journal_in l d) → (j.count ≡ ((first_program l).start d).count) × (tail j ≡ ((first_program l).start d).tail)
+first_journal_starts l d j h = first_starts l d j.label j.count j.block.now h.count h.tail
 
 -- calls that were taken are taken again
 module _ (l : Limits) where

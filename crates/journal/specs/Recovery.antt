@@ -1,8 +1,8 @@
 -- How the journal is read again, block by block. Assumes nothing: these are definitions.
-use Rattle.std.specs.Prelude.{◌≡◌, ℕ, ◌+◌, ◌*◌, ◌<◌, ◌≤◌, Bool, true, not, ◌&&◌, ◌||◌, ◌⊎◌, List, [], ◌∷◌, ◌++◌, length, Some, None, Option, ◌==◌, ◌≢◌, nat_le, nat_lt}
+use Rattle.std.specs.Prelude.{◌≡◌, ℕ, ◌+◌, ◌*◌, ◌/◌, ◌<◌, ◌≤◌, Bool, true, not, ◌&&◌, ◌||◌, ◌⊎◌, List, [], ◌∷◌, ◌++◌, length, Some, None, Option, ◌==◌, ◌≢◌, nat_le, nat_lt}
 use Rattle.device.specs.Device.{pick, Device}
 use Rattle.device.specs.Rows.{rows_in}
-use Rattle.device.specs.Journal.{gather, takes, logged}
+use Rattle.device.specs.Journal.{chunk, gather, takes, logged}
 use Rattle.device.specs.Resident.{Memory, loaded, how_many}
 use Rattle.bank.specs.Calls.{Call, Limits}
 use Rattle.bank.specs.Promise.{room}
@@ -14,7 +14,9 @@ use Rattle.columns.specs.Sizes.{limits_of}
 use Rattle.columns.specs.declared.limits.Limits.{Limits as Given}
 use Rattle.wire.specs.JournalRow.{kind_at}
 use Rattle.journal.specs.declared.journal.Journal.{Journal}
-use Rattle.journal.specs.Tail.{bounds, tail, Stands}
+use Rattle.journal.specs.declared.header.Label.{Label}
+use Rattle.journal.specs.Blocks.{tail_in}
+use Rattle.journal.specs.Tail.{bounds}
 
 -- how many rows a block has of the journal's epoch: a block of an earlier one counts as empty
 abbrev pub rows_of : ℕ → Limits → ℕ → List ℕ → ℕ
@@ -90,9 +92,14 @@ pub record FirstAccepted (l : Limits) (d : Device) (ts : List Call) : Type 0 whe
 abbrev pub FirstRecovered : Limits → Type 0
 FirstRecovered l = (d : Device) (ts : List Call) → FirstReading l d ts → FirstAccepted l d ts
 
--- a journal that stands at the end of a device's calls has what the program is started with
+-- a count, and the bytes of a block under a label, that stand at the end of a device's calls have what the program is started with; so for every label, count and bytes, of which a journal
+-- has some
 abbrev pub FirstStarts : Limits → Type 0
-FirstStarts l = (d : Device) (j : Journal) → Stands j (journal_in l d) → (j.count ≡ ((first_program l).start d).count) × (tail j ≡ ((first_program l).start d).tail)
+FirstStarts l =
+    (d : Device) (t : Label) (count : ℕ) (bytes : List ℕ) →
+    count ≡ length (journal_in l d) →
+    tail_in t count bytes ≡ chunk 24 (length (journal_in l d) / 24) (journal_in l d) →
+    (count ≡ ((first_program l).start d).count) × (tail_in t count bytes ≡ ((first_program l).start d).tail)
 
 -- THE JOURNAL NEVER FILLS in the first stage: after any calls, one more that is taken finds room
 abbrev pub FirstHasRoom : Limits → Type 0

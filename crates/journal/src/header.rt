@@ -115,7 +115,7 @@ impl Header {
         if self.rows == 0 || self.epoch < epoch {
             return Some(0);
         }
-        let fits = self.epoch == epoch && self.rows as u64 <= ROWS && joins;
+        let fits = self.epoch <= epoch && self.rows as u64 <= ROWS && joins;
         fits.then_some(self.rows as usize)
     }
 }

@@ -9,9 +9,10 @@ use ledger::opening::Misfit;
 use session::opening::blocks_needed;
 use session::{Next, Session};
 use std::{env, fs};
-use store::lines::{row_of, say};
+use store::lines::{read_row, say};
 use store::memory::Memory;
 use store::{LIMITS, Store, open_book};
+use text::line::LONGEST;
 
 mod cut;
 
@@ -51,8 +52,7 @@ impl Keeper<'_> {
     // Answers all lines.
     fn answer_all(&mut self, rt: &HostRuntime, calls: &str) -> anyhow::Result<()> {
         for line in calls.lines() {
-            let row = row_of(rt.alloc(), line)?;
-            self.session.call(&row);
+            self.session.call(read_row(line, &mut [0; LONGEST]));
             self.perform(rt)?;
         }
         Ok(())

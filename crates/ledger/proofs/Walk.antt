@@ -81,15 +81,9 @@ counts_other : (p : Booking → ℕ) (k a d : ℕ) (b : Booking) → (p b ≡ a 
 counts_other p k a d b h = grind (arith, nat_tests)
 
 -- the way of a ledger by the chain of one side
-pub way_by : (g : Ledger) (h x : Chain) (p : Booking → ℕ) (k a d : ℕ) → h ≡ x → Chained x (λ i. p (row g.bookings i)) g.bookings.count g.accounts.count → g.bookings.capacity ≤ length x.before.now →
+pub way_by : (g : Ledger) (h : Chain) (p : Booking → ℕ) (k a d : ℕ) → Chained h (λ i. p (row g.bookings i)) g.bookings.count g.accounts.count → g.bookings.capacity ≤ length h.before.now →
     a < length (bank g).accounts → Way g.bookings h p (counts p k a d) a g.accounts.count
-way_by g h x p k a d e c l u =
-    rw e (record {
-      chained = c;
-      account = omega (arith, u, bank_accounts g);
-      other = counts_other p k a d;
-      room = omega arith;
-    })
+way_by g h p k a d c l u = record { chained = c; account = omega (arith, u, bank_accounts g); other = counts_other p k a d; room = omega arith }
 
 -- what came and what left are such sums
 module _ (g : Ledger) (k a d : ℕ) where

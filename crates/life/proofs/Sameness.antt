@@ -23,7 +23,7 @@ module _ (s t : Session) (e : Same s t) where
   limits_same = ap (λ (b : Book). limits b.ledger) e.book
 
 -- bytes behind what was heard, and then behind what was heard since
-behind_more : (bs cs ds : List ℕ) (h k m : Heard) → Behind bs h cs k → Behind cs k ds m → Behind bs h ds m
+pub behind_more : (bs cs ds : List ℕ) (h k m : Heard) → Behind bs h cs k → Behind cs k ds m → Behind bs h ds m
 behind_more bs cs ds h k m p q =
     let g : k.bytes + (m.bytes - k.bytes) ≡ m.bytes = omega (arith, q.grown) in
     let back : (xs : List ℕ) → drop (m.bytes - k.bytes) (drop k.bytes xs) ≡ drop m.bytes xs = λ xs. drop-drop (m.bytes - k.bytes) k.bytes xs ∙ ap (λ (n : ℕ). drop n xs) g in

@@ -1,16 +1,21 @@
 // pace ACCOUNTS BOOKINGS: opens a book of that size in memory, fills it through a session, and says how long each phase took.
 #![tactic(auto)]
 
+ghost use Rattle.std.specs.Prelude.{IfSome};
+ghost use Rattle.model.specs.Whole.{ReachedRegister};
+ghost use Rattle.ledger.specs.Meaning.{limits, register};
+ghost use Rattle.session.specs.Opening.{Opens};
+
 use anyhow::anyhow;
+use blocks::BLOCK;
 use columns::limits::Limits;
 use disk::Device;
 use phase::{LIMIT, PAID_IN, QUESTIONS, Size, TOO_MUCH, balance, order};
-use session::opening::open;
+use session::opening::{Opening, open};
 use session::{Next, Session};
 use std::env;
 use std::time::{Duration, Instant};
 use store::memory::Memory;
-use store::stand;
 use wire::call::{Call, write_call};
 
 mod disk;
@@ -147,13 +152,27 @@ fn say_time(rt: &HostRuntime, title: &str, count: u32, time: Duration) -> anyhow
     Ok(())
 }
 
+// The session of a device whose blocks are all the same; an empty one has zeros. No reader: to be handed a block costs more than to take it.
+fn stand<'a>(opening: Opening<'a>, block: &[u8]) -> Option<Session<'a>>
+    ensures { Opens opening.entry → IfSome result (λ s. ReachedRegister (limits s.book.ledger) (register s.book.ledger)) }
+{
+    let mut opening = opening;
+    while let Some(_) = opening.next_block() {
+        if !opening.take_block(block) {
+            return None;
+        }
+    }
+    opening.stand()
+}
+
 // Opens the book of an empty device in lent memory, and measures.
 fn measure(rt: &HostRuntime, size: Size, memory: &mut Memory) -> anyhow::Result<()> {
+    let empty = vec![in rt.alloc(); 0u8; BLOCK]?;
     let start = Instant::now(rt)?;
     let Ok(opening) = open(size.limits, memory.lend()) else {
         return Err(anyhow!(USAGE));
     };
-    let Some(session) = stand(opening, |_, _| Some(())) else {
+    let Some(session) = stand(opening, &empty) else {
         return Err(anyhow!("an empty device was refused"));
     };
     let time = start.elapsed(rt)?;

@@ -49,6 +49,7 @@ pub through_none : (o : Opening) (image : List ℕ) → Through o o image
 unfolding gather_each
 through_none o image =
     record {
+      still_open = refl;
       limits_stay = refl;
       blocks_stay = refl;
       stage_stays = refl;
@@ -64,6 +65,7 @@ through_more o p q image t there a =
     let same : rows_for_lem p (device_of image k) ≡ calls_in 1 l (device_of image k) =
     calls_accepted (limits p.session.book.ledger) k p.session.journal.count (device_of image k) a.accepted ∙ ap (λ (x : Limits). calls_in 1 x (device_of image k)) t.limits_stay in
     record {
+      still_open = a.still_open ∙ sym a.was_open ∙ t.still_open;
       limits_stay = a.limits_stay ∙ t.limits_stay;
       blocks_stay = a.blocks_stay ∙ t.blocks_stay;
       stage_stays = a.stage_stays ∙ t.stage_stays;
@@ -104,6 +106,7 @@ acceptable o p image ts h t there =
     let same : limits p.session.book.ledger ≡ l = t.limits_stay in
     let ok : accepts 1 l 0 k p.session.journal.count (d k) ≡ true = ap (λ (m : ℕ). accepts 1 l 0 k m (d k)) n ∙ f.accepted k few (device_whole image k) in
     record {
+      open_yet = t.still_open ∙ h.new.open_yet;
       at_base = at;
       there = there;
       accepted = ap (λ (x : Limits). accepts 1 x 0 k p.session.journal.count (d k)) same ∙ ok;

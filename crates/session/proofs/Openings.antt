@@ -1,7 +1,7 @@
 -- Blocks that are read while a session is opened.
-use Rattle.std.proofs.Common.{◌≡◌, ℕ, ◌+◌, ◌*◌, max, Bool, true, false, ◌&&◌, eqb, ltb, leb, List, ◌++◌, Some, None, Option, sym, ap, ◌∙◌, subst}
+use Rattle.std.proofs.Common.{◌≡◌, ℕ, ◌+◌, ◌*◌, max, Bool, true, false, ◌&&◌, eqb, ltb, leb, List, ◌++◌, Some, None, Option, is_some, IfSome, sym, ap, ◌∙◌, subst}
 use Rattle.std.proofs.lemmas.Option.{cond_some}
-use Rattle.std.proofs.lemmas.Bool.{and_parts}
+use Rattle.std.proofs.lemmas.Bool.{and_parts, false≢true}
 use Rattle.device.specs.Device.{pick}
 use Rattle.device.specs.Rows.{rows_in}
 use Rattle.bank.specs.Calls.{Call, Limits}
@@ -53,11 +53,18 @@ module _ (s : Session) (j : Journal) (bs : List ℕ) (n : ℕ) (t : Took s.journ
   pub taken_read : j.read ≡ s.journal.read + 1
   taken_read = t.read ∙ ap (λ (b : Bool). s.journal.read + pick b 1 0) next_accepted
 
+-- what holds of a value holds where it is not missing
+pub where_some : {X : Type 0} (r : Option X) (P : Type 0) → IfSome r (λ _. P) → is_some r ≡ true → P
+where_some (Some x) P h e = h
+where_some None P h e = absurd (false≢true e)
+
 -- one block more
-pub advances : (o p : Opening) (q : Session) (bs : List ℕ) (n : ℕ) → Took o.session.journal q.journal bs (Some n) → q.book ≡ o.session.book → q.stage ≡ o.session.stage →
+pub advances : (o p : Opening) (q : Session) (bs : List ℕ) (n : ℕ) → o.refused ≡ false → p.refused ≡ false → Took o.session.journal q.journal bs (Some n) → q.book ≡ o.session.book → q.stage ≡ o.session.stage →
     ((b : List Call) → Stands o.session.journal b → Stands q.journal b) → Grown q p.session (rows_in call_row 32 n bs) → Advanced o p bs
-advances o p q bs n t e f st g =
+advances o p q bs n w v t e f st g =
     record {
+      was_open = w;
+      still_open = v;
       accepted = taken_accepted o.session q.journal bs n t;
       limits_stay = g.limits_stay ∙ ap (λ (b : Book). limits b.ledger) e;
       read_is = g.read_stays ∙ taken_read o.session q.journal bs n t;

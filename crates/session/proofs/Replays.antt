@@ -40,6 +40,7 @@ grown_one s t c a v j n h =
                 ∙ ap (λ (l : Limits). ran_by (book l) new_bank (base ++ (c ∷ []))) (sym v.limits_stay);
             stands = n base at.stands;
           };
+      onward = v.onward;
     }
 
 -- none, and some after others
@@ -52,6 +53,7 @@ grown_none s =
       count_is = omega arith;
       stage_stays = refl;
       stands = λ base at. subst (At s) (sym (append-nil base)) at;
+      onward = λ r. r;
     }
 
 pub grown_then : (s t u : Session) (cs ds : List Call) → Grown s t cs → Grown t u ds → Grown s u (cs ++ ds)
@@ -63,6 +65,7 @@ grown_then s t u cs ds g h =
       count_is = let p = g.count_is in let q = h.count_is in let n = length-append cs ds in omega arith;
       stage_stays = h.stage_stays ∙ g.stage_stays;
       stands = λ base at. subst (At u) (append_assoc base cs ds) (h.stands (base ++ cs) (g.stands base at));
+      onward = λ r. h.onward (g.onward r);
     }
 
 -- rows of a block

@@ -19,9 +19,9 @@ use Rattle.wire.specs.Answered.{answered}
 use Rattle.wire.specs.declared.answer.Answer.{Answer as Code}
 use Rattle.ledger.specs.Meaning.{bank, register, limits}
 use Rattle.ledger.specs.declared.Ledger.{Ledger}
-use Rattle.desk.specs.Desk.{ServedFirst}
+use Rattle.desk.specs.Desk.{Onward, ServedFirst}
 use Rattle.desk.specs.declared.Book.{Book}
-use Rattle.desk.proofs.Serving.{asked_turned, asked_first, first_asked}
+use Rattle.desk.proofs.Serving.{book_kept, asked_turned, asked_first, first_asked}
 use Rattle.journal.specs.declared.header.Label.{Label}
 use Rattle.journal.specs.declared.journal.Journal.{Journal}
 use Rattle.journal.specs.Tail.{bounds, tail, Appended}
@@ -33,7 +33,9 @@ use Rattle.session.specs.Session.{memory, left, answer_of_lem}
 -- bytes that are no call are turned away
 pub served_garbled : (b : Book) (p : ℕ) → ServedFirst b.ledger b.ledger (garbled p) (refused 1 p) false
 unfolding own_checks has_room plain asks
-served_garbled b p = first_asked b.ledger (garbled p) (garbled p) (refused 1 p) refl (asked_first b.ledger (garbled p) (garbled p) (refused 1 p) refl refl (asked_turned b (garbled p) 0 tt refl)) (λ _. refl)
+served_garbled b p =
+    first_asked b.ledger (garbled p) (garbled p) (refused 1 p) (book_kept b) refl
+    (asked_first b.ledger (garbled p) (garbled p) (refused 1 p) refl refl (asked_turned b.ledger (book_kept b) (garbled p) 0 tt refl)) (λ _. refl)
 
 -- what changed nothing left everything
 idle_register : (g h : Ledger) (c : Call) (a : Told) → ServedFirst g h c a false → register h ≡ register g
@@ -145,6 +147,7 @@ pub record Called (s t : Session) (c : Call) : Type 0 where
   pub state : memory t ≡ (first_program (limits s.book.ledger)).next (memory s) c
   pub acts : left t ≡ (first_program (limits s.book.ledger)).does (memory s) c
   pub limits : limits t.book.ledger ≡ limits s.book.ledger
+  pub onward : Onward s.book.ledger t.book.ledger
 
 module _ (s t : Session) (c d : Call) (h : Ledger) (k : Code) (y : readable d ≡ true) (same : c ≡ d) (g : t.book.ledger ≡ h) (e : t.answer ≡ k) where
   served : (did : Bool) → ServedFirst s.book.ledger h c (answered k []) did → ServedFirst s.book.ledger t.book.ledger d (answered k []) did
@@ -158,6 +161,7 @@ module _ (s t : Session) (c d : Call) (h : Ledger) (k : Code) (y : readable d �
         state = quiet_state s t d y (answered k []) u j;
         acts = quiet_acts s t d y (answered k []) u j w (ap (λ (x : Code). answered x []) e);
         limits = u.limits_stay;
+        onward = u.onward;
       }
 
   pub called_taken : (n : ℕ) → ServedFirst s.book.ledger h c (answered k []) true → Appended s.journal t.journal c → t.stage ≡ Writing n → n ≡ s.journal.count / 24 → Called s t d
@@ -168,4 +172,5 @@ module _ (s t : Session) (c d : Call) (h : Ledger) (k : Code) (y : readable d �
         state = taken_state s t d y (answered k []) u q;
         acts = taken_acts s t d y (answered k []) u q n w (ap (λ (x : Code). answered x []) e) at;
         limits = u.limits_stay;
+        onward = u.onward;
       }

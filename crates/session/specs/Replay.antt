@@ -6,6 +6,7 @@ use Rattle.model.specs.JournalBlock.{call_row}
 use Rattle.wire.specs.JournalRow.{kind_at}
 use Rattle.journal.specs.Recovery.{TakenAfter}
 use Rattle.ledger.specs.Meaning.{limits}
+use Rattle.desk.specs.Desk.{Onward}
 use Rattle.session.specs.declared.Session.{Session}
 use Rattle.session.specs.Session.{At}
 
@@ -29,3 +30,4 @@ pub record Grown (s t : Session) (cs : List Call) : Type 0 where
   pub count_is : t.journal.count ≡ s.journal.count + length cs
   pub stage_stays : t.stage ≡ s.stage
   pub stands : (base : List Call) → At s base → At t (base ++ cs)
+  pub onward : Onward s.book.ledger t.book.ledger

@@ -66,6 +66,7 @@ pub struct Session<'a> {
 }
 
 impl<'a> Session<'a> {
+    ghost use Rattle.desk.specs.Desk.{Onward};
     ghost use Rattle.session.specs.Session.{memory, left, told, Told, Replied, Said, Same};
 
     // Puts an answer, which no bookings follow, into the lent bytes, to be said.
@@ -84,6 +85,7 @@ impl<'a> Session<'a> {
         ensures state { memory self.new ≡ (first_program (limits self.old.book.ledger)).next (memory self.old) (read_call_lem row.now) }
         ensures acts { left self.new ≡ (first_program (limits self.old.book.ledger)).does (memory self.old) (read_call_lem row.now) }
         ensures limits { limits self.new.book.ledger ≡ limits self.old.book.ledger }
+        ensures reached { Onward self.old.book.ledger self.new.book.ledger }
     {
         let call = match read_call(row) {
             Ok(call) => call,

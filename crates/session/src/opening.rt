@@ -1,10 +1,11 @@
 // Opening a session in lent memory: it asks for the blocks of the device one after another, and takes the calls of its journal again.
-ghost use Rattle.std.specs.Prelude.{◌≡◌, ◌≤◌, true, length, Some, None, nat_lt};
+ghost use Rattle.std.specs.Prelude.{◌≡◌, ◌≤◌, true, not, List, length, Some, None, nat_lt};
 ghost use Rattle.device.specs.Device.{pick};
+ghost use Rattle.bank.specs.Calls.{Call as Told-call};
 ghost use Rattle.bank.specs.Promise.{allowed, room};
 ghost use Rattle.ledger.specs.Opened.{New};
 ghost use Rattle.columns.specs.Sizes.{limits_of};
-ghost use Rattle.session.specs.Opening.{NewOpening, outer_misfit, Opened, TookBlock, TookImage, Stood, Recovered};
+ghost use Rattle.session.specs.Opening.{NewOpening, outer_misfit, Opened, Opens, Advanced, Acceptable, Through, HoldsCalls, TookBlock, TookImage, Stood, Recovered};
 ghost use Rattle.ledger.specs.Meaning.{limits};
 
 use crate::lent::Lent;
@@ -30,10 +31,11 @@ pub struct Refused<'a> {
     pub lent: Lent<'a>,
 }
 
-// A session that does not stand yet: blocks of its device are still to be read.
+// A session that does not stand yet: blocks of its device are still to be read, or one was refused.
 #[derive(Drop)]
 pub struct Opening<'a> {
     session: Session<'a>,
+    refused: bool,
 }
 
 // How many blocks a device must have for these limits.
@@ -73,7 +75,10 @@ fn begin<'a>(
         answer,
         stage: Stage::Idle,
     };
-    Opening { session }
+    Opening {
+        session,
+        refused: false,
+    }
 }
 
 // What does not fit, before the book's own cells are looked at. No `Result`: what refuses by it hands the lent memory back too.
@@ -130,36 +135,66 @@ impl<'a> Opening<'a> {
         self.session.journal.next_block()
     }
 
-    // Takes the block that was asked for: its calls are taken again. None where it cannot be of this book.
-    pub fn take_block(self, bytes: &[u8]) -> Option<Opening<'a>>
-        ensures { TookBlock self.entry bytes.now result }
+    // Takes the block that was asked for: its calls are taken again. Refuses one that cannot be of this book, and from then on all others.
+    pub fn take_block(&mut self, bytes: &[u8]) -> bool
+        ensures opens { Opens self.old → Opens self.new }
+        ensures advanced { result ≡ true → Advanced self.old self.new bytes.now }
+        ensures found { (base : List Told-call) → Acceptable self.old base bytes.now → result ≡ true }
+        ensures refused { self.new.refused ≡ not result }
     {
-        let Opening { mut session } = self;
-        let rows = session.journal.take_block(bytes)?;
-        session.replay_block(bytes, rows)?;
-        Some(Opening { session })
+        if self.refused {
+            return false;
+        }
+        let session = &mut self.session;
+        let Some(rows) = session.journal.take_block(bytes) else {
+            self.refused = true;
+            return false;
+        };
+        let refused = session.replay_block(bytes, rows).is_none();
+        self.refused = refused;
+        !refused
     }
 
-    // Takes all blocks of a device in lent bytes. None where one is missing, or cannot be of this book.
-    pub fn take_image(self, image: &[u8]) -> Option<Opening<'a>>
+    // Takes all blocks of a device in lent bytes; says whether none is missing, and none was refused.
+    pub fn take_image(&mut self, image: &[u8]) -> bool
+        ensures opens { Opens self.old → Opens self.new }
+        ensures through { result ≡ true → Through self.old self.new image.now }
+        ensures all { result ≡ true → self.new.session.journal.blocks ≤ self.new.session.journal.read }
+        ensures found { (ts : List Told-call) → HoldsCalls self.old image.now ts → result ≡ true }
+    {
+        while let Some(k) = self.next_block() {
+            if k >= blocks_in(image) {
+                return false;
+            }
+            if !self.take_block(block_at(image, k as usize)) {
+                return false;
+            }
+        }
+        true
+    }
+
+    // The opening with the block that was asked for. None where it is refused.
+    pub fn with_block(self, bytes: &[u8]) -> Option<Opening<'a>>
+        ensures { TookBlock self.entry bytes.now result }
+    {
+        let mut opening = self;
+        opening.take_block(bytes).then_some(opening)
+    }
+
+    // The opening with all blocks of a device in lent bytes. None where one is missing or refused.
+    pub fn with_image(self, image: &[u8]) -> Option<Opening<'a>>
         ensures { TookImage self.entry image.now result }
     {
         let mut opening = self;
-        while let Some(k) = opening.next_block() {
-            if k >= blocks_in(image) {
-                return None;
-            }
-            opening = opening.take_block(block_at(image, k as usize))?;
-        }
-        Some(opening)
+        opening.take_image(image).then_some(opening)
     }
 
-    // The session, where all blocks were read.
+    // The session, where all blocks were read and none was refused.
     pub fn stand(self) -> Option<Session<'a>>
         ensures { Stood self.entry result }
     {
-        let Opening { session } = self;
-        if session.journal.next_block().is_some() {
+        let Opening { session, refused } = self;
+        if refused || session.journal.next_block().is_some() {
             return None;
         }
         Some(session)
@@ -171,5 +206,9 @@ pub fn recover<'a>(opening: Opening<'a>, image: &[u8]) -> Option<Session<'a>>
     requires { NewOpening opening (limits opening.session.book.ledger) }
     ensures { Recovered opening.entry image.now result }
 {
-    opening.take_image(image)?.stand()
+    let mut opening = opening;
+    if !opening.take_image(image) {
+        return None;
+    }
+    opening.stand()
 }

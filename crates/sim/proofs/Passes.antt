@@ -2,7 +2,7 @@
 use Rattle.std.proofs.Common.{◌≡◌, ℕ, suc, ◌+◌, ◌-◌, ◌*◌, ◌<◌, ◌≤◌, Bool, true, false, cond, eqb, ltb, ◌⊎◌, List, [], ◌∷◌, ◌++◌, length, get_or, take, drop, sym, refl, ap, ◌∙◌, inl, inr, eqb-true, add-one, arith}
 use Rattle.std.proofs.lemmas.Bool.{ltb-true, ltb-false}
 use Rattle.std.proofs.lemmas.Bool.Decides.{nat_tests}
-use Rattle.std.proofs.lemmas.List.{length-append, length-drop, length-take-le, take_at, drop_at, drop_more, nil_from_length, get_or-take}
+use Rattle.std.proofs.lemmas.List.{length-append, length-drop, take_at, drop_at, drop_more, nil_from_length}
 use Rattle.std.proofs.lemmas.List.Sums.{sum_by_more}
 use Rattle.device.specs.Device.{Device, pick, put}
 use Rattle.device.specs.Plan.{put_all}
@@ -119,24 +119,24 @@ pub cut_done : {row places : List ℕ} {left : Device} {image ks bs : List ℕ} 
 cut_done {row} {places} {left} {image} {ks} {bs} {n} {i} c over j = all_left image ks bs n c.to_come over (get_or row (turn j places) 0 - times j (take i places)) j (device_of image j) ∙ c.counted j
 
 -- before the first of them, all are to come
-module _ (image places blocks ks bs : List ℕ) (count size : ℕ) (e : ks ≡ take count places) (f : bs ≡ blocks) (s : size ≡ 512) (n : count ≤ length places) (w : 512 * count ≤ length blocks)
-    (h : (i : ℕ) → i < count → 512 * get_or places i 0 + 512 ≤ length image) where
+module _ (image places blocks ks bs : List ℕ) (size : ℕ) (e : ks ≡ places) (f : bs ≡ blocks) (s : size ≡ 512) (w : 512 * length places ≤ length blocks)
+    (h : (i : ℕ) → i < length places → 512 * get_or places i 0 + 512 ≤ length image) where
   all_to_come : ToCome image ks bs size
   all_to_come =
-      let l : length ks ≡ count = ap length e ∙ length-take-le count places n in
+      let l : length ks ≡ length places = ap length e in
       record {
         sized = s;
         whole = omega (arith, l, ap length f);
-        inside = λ i lt. let g : get_or ks i 0 ≡ get_or places i 0 = ap (λ xs. get_or xs i 0) e ∙ get_or-take count places i 0 (omega (arith, l)) in omega (arith, g, h i (omega (arith, l)));
+        inside = λ i lt. let g : get_or ks i 0 ≡ get_or places i 0 = ap (λ xs. get_or xs i 0) e in omega (arith, g, h i (omega (arith, l)));
       }
 
-  pub cut_begun : (row : List ℕ) (i : ℕ) → i ≡ 0 → Cutting row (take count places) (cut_by row (record { durable = device_of image; pending = writes_in (take count places) blocks })) image ks bs size i
+  pub cut_begun : (row : List ℕ) (i : ℕ) → i ≡ 0 → Cutting row places (cut_by row (record { durable = device_of image; pending = writes_in places blocks })) image ks bs size i
   cut_begun row i z = record {
     to_come = all_to_come;
-    here = e ∙ ap (λ y. drop y (take count places)) (sym z);
+    here = e ∙ ap (λ y. drop y places) (sym z);
     counted = λ j.
-        let t : times j (take i (take count places)) ≡ 0 = ap (λ m. times j (take m (take count places))) z in
-        let b : get_or row (turn j (blocks_of (writes_in (take count places) blocks))) 0 ≡ get_or row (turn j (take count places)) 0 = ap (λ ps. get_or row (turn j ps) 0) (blocks_writes (take count places) blocks) in
-        let m : get_or row (turn j (take count places)) 0 - times j (take i (take count places)) ≡ get_or row (turn j (blocks_of (writes_in (take count places) blocks))) 0 = omega (arith, t, b) in
+        let t : times j (take i places) ≡ 0 = ap (λ m. times j (take m places)) z in
+        let b : get_or row (turn j (blocks_of (writes_in places blocks))) 0 ≡ get_or row (turn j places) 0 = ap (λ ps. get_or row (turn j ps) 0) (blocks_writes places blocks) in
+        let m : get_or row (turn j places) 0 - times j (take i places) ≡ get_or row (turn j (blocks_of (writes_in places blocks))) 0 = omega (arith, t, b) in
         rw (m, e, f) refl;
   }

@@ -1,9 +1,9 @@
 -- What a simulated device holds, by the memory that it is lent. Assumes nothing: these are definitions.
-use Rattle.std.specs.Prelude.{◌≡◌, ℕ, ◌/◌, min, Bool, ◌&&◌, List, length, take, ◌==◌, nat_lt}
+use Rattle.std.specs.Prelude.{◌≡◌, ℕ, ◌/◌, Bool, List, length, take}
 use Rattle.device.specs.Plan.{Write}
-use Rattle.blocks.specs.Blocks.{device_of}
 use Rattle.sim.specs.Held.{Held}
 use Rattle.sim.specs.Cut.{writes_in}
+use Rattle.sim.specs.Kept.{held_by, room_for, is_taken}
 use Rattle.sim.specs.declared.Disk.{Disk}
 
 -- where the writes go
@@ -16,7 +16,7 @@ kept u = writes_in (places_in u) u.blocks.now
 
 -- what the device holds: the image is safe
 abbrev pub holds : Disk → Held
-holds u = record { durable = device_of u.image.now; pending = kept u }
+holds u = held_by u.image.now (kept u)
 
 -- the image is still the same lent bytes: its lender's, and as many
 pub record SameImage (u v : Disk) : Type 0 where
@@ -25,8 +25,8 @@ pub record SameImage (u v : Disk) : Type 0 where
 
 -- how many writes it has room for
 abbrev pub room : Disk → ℕ
-room u = min (length u.places.now) (length u.blocks.now / 512)
+room u = room_for u.places.now u.blocks.now
 
 -- is a write taken: a whole block, which is there, while there is room
 abbrev pub takes : Disk → ℕ → List ℕ → Bool
-takes u k bs = nat_lt u.count (room u) && (nat_lt k (length u.image.now / 512) && length bs == 512)
+takes u k bs = is_taken (length u.image.now / 512) (room u) u.count k bs

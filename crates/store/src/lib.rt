@@ -1,11 +1,20 @@
 // A device in a file, the book that the programs keep on it, and what they read and print.
 #![tactic(auto)]
 
+ghost use Rattle.std.specs.Prelude.{◌≡◌, ◌≤◌, ℕ, List, IfSome, IsSome, Some};
+ghost use Rattle.bank.specs.Calls.{Call};
+ghost use Rattle.columns.specs.Sizes.{limits_of};
+ghost use Rattle.model.specs.Whole.{ReachedRegister};
+ghost use Rattle.ledger.specs.Meaning.{limits, register};
+ghost use Rattle.session.specs.Opening.{NewOpening, Opens, HoldsCalls, Recovered};
+ghost use Rattle.store.specs.Reading.{ReadsBlocks, NeverFails};
+ghost use Rattle.store.specs.Opened.{OpenedBook};
+
 use columns::limits::Limits;
 use ledger::opening::Misfit;
 use memory::Memory;
 use session::Session;
-use session::opening::{Opening, open};
+use session::opening::{Opening, blocks_needed, open};
 use std::fs::{File, OpenOptions};
 use std::io;
 use std::io::{Read, Seek, SeekFrom, Write};
@@ -77,18 +86,47 @@ pub fn stand<'a, F: FnMut(u64, &mut [u8]) -> Option<()>>(
     mut read: F,
 ) -> Option<Session<'a>>
     requires { F.IsAlwaysCallable read }
+    ensures limits { IfSome result (λ s. limits s.book.ledger ≡ limits opening.entry.session.book.ledger) }
+    ensures all { IfSome result (λ s. s.journal.blocks ≤ s.journal.read) }
+    ensures reached { Opens opening.entry → IfSome result (λ s. ReachedRegister (limits s.book.ledger) (register s.book.ledger)) }
+    ensures recovered { (image : List ℕ) → ReadsBlocks F.FnMut read image → NewOpening opening.entry (limits opening.entry.session.book.ledger) → IfSome result (λ s. Recovered opening.entry image (Some s)) }
+    ensures found { (image : List ℕ) (ts : List Call) → ReadsBlocks F.FnMut read image → NeverFails F.FnMut read → HoldsCalls opening.entry image ts → IsSome result }
 {
     let mut opening = opening;
     let mut block = [0; BLOCK];
     while let Some(k) = opening.next_block() {
         read(k, &mut block)?;
-        opening = opening.take_block(&block)?;
+        if !opening.take_block(&block) {
+            return None;
+        }
     }
     opening.stand()
 }
 
+// Reads all blocks that an opening asks for; says whether none was refused. The opening stays its lender's, who can ask which block is next.
+pub fn read_all(store: &mut Store, opening: &mut Opening) -> anyhow::Result<bool>
+    requires { Opens opening.old }
+    ensures { Opens opening.new }
+{
+    let mut block = [0; BLOCK];
+    for _ in 0..blocks_needed(LIMITS) {
+        let Some(k) = opening.next_block() else {
+            return Ok(true);
+        };
+        if store.read(k, &mut block).is_err() {
+            return Ok(false);
+        }
+        if !opening.take_block(&block) {
+            return Ok(false);
+        }
+    }
+    Ok(true)
+}
+
 // Opens the book that a file of blocks holds. A match and no `map_err`: the borrow check has no rule for a closure that takes what was refused, with its lent memory.
-pub fn open_book<'a>(store: &mut Store, memory: &'a mut Memory) -> Result<Session<'a>, Misfit> {
+pub fn open_book<'a>(store: &mut Store, memory: &'a mut Memory) -> Result<Session<'a>, Misfit>
+    ensures { OpenedBook (limits_of LIMITS) memory.old result }
+{
     let opening = match open(LIMITS, memory.lend()) {
         Ok(opening) => opening,
         Err(refused) => return Err(refused.misfit),

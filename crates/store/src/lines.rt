@@ -7,13 +7,19 @@ use std::alloc::{AllocError, Global};
 use text::answer::write_answer_line;
 use text::line::{LONGEST, read_line};
 
-// The row of bytes that a line stands for; one that stands for none is as a row of no bytes.
+// The row of bytes that a line stands for, in lent bytes; one that stands for none is as a row of no bytes.
+pub fn read_row<'r>(line: &str, row: &'r mut [u8; LONGEST]) -> &'r [u8]
+    ensures { result.now ≡ unwrap_or (row_in line.now) [] }
+{
+    let n = read_line(line.as_bytes(), row).unwrap_or(0);
+    &row[..n]
+}
+
+// The same row, on the heap.
 pub fn row_of(heap: Global, line: &str) -> Result<Vec<u8>, AllocError>
     ensures { IfOk result (λ row. row.items ≡ unwrap_or (row_in line.now) []) }
 {
-    let mut row = [0; LONGEST];
-    let n = read_line(line.as_bytes(), &mut row).unwrap_or(0);
-    row[..n].to_vec(heap)
+    read_row(line, &mut [0; LONGEST]).to_vec(heap)
 }
 
 // Prints the answer that some bytes are.
@@ -52,5 +58,13 @@ mod tests {
         assert_eq!(rt; row_of(rt.alloc(), "taken")?.as_slice(), b"\x08".as_slice());
         assert!(rt; row_of(rt.alloc(), "nothing")?.is_empty());
         Ok(())
+    }
+
+    #[test]
+    fn answers_are_said(rt: HostRuntime) {
+        let said = b"\x01\x05\0\0\0\0\0\0\0\0\x07\0\0\0\0\0\0\0\x01\0\0\0\0\0\0\0";
+        assert!(rt; say(&rt, &said[..9]).is_ok());
+        assert!(rt; say_all(&rt, said, 2).is_ok());
+        assert!(rt; say_all(&rt, said, 3).is_err());
     }
 }

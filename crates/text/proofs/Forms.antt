@@ -1,5 +1,6 @@
 -- Laws of the words of a line, read one behind another: the numbers so far, and those that what is left gives.
-use Rattle.std.proofs.Common.{◌≡◌, ℕ, ◌≤◌, Bool, true, false, leb, List, [], ◌∷◌, ◌++◌, length, Some, None, Option, sym, refl, ap, ◌∙◌, append_assoc, le-leb}
+use Rattle.std.proofs.Common.{◌≡◌, ℕ, ◌<◌, ◌≤◌, Bool, true, false, leb, List, [], ◌∷◌, ◌++◌, length, Some, None, Option, sym, refl, ap, ◌∙◌, append_assoc, le-leb}
+use borrow.Author.Tests.{lt-leb}
 use Rattle.std.proofs.lemmas.List.{append-nil}
 use Rattle.bank.specs.Book.{pick}
 use Rattle.text.specs.Words.{word_number}
@@ -25,10 +26,13 @@ module _ (all : Option (List ℕ)) (ns : List ℕ) (ws : List (List ℕ)) (inv :
   unfolding all_numbers
   number_all p = sym (inv ∙ rw p (ap Some (append-nil ns)))
 
--- few enough of them, and none either way
+-- few enough of them, too many, and none either way
 module _ (ws : List (List ℕ)) where
   pub few : length ws ≤ 9 → few_numbers ws ≡ all_numbers ws
   few h = ap (λ t. pick t (all_numbers ws) None) (le-leb (length ws) 9 h)
+
+  pub many : 9 < length ws → None ≡ few_numbers ws
+  many h = sym (ap (λ t. pick t (all_numbers ws) None) (lt-leb (length ws) 9 h))
 
   pub neither : None ≡ all_numbers ws → None ≡ few_numbers ws
   neither e = either (leb (length ws) 9) ∙ ap (λ o. pick (leb (length ws) 9) o None) e

@@ -2,7 +2,6 @@
 use Rattle.std.specs.Prelude.{◌≡◌, ℕ, suc, ◌/◌, ◌<◌, ◌≤◌, Bool, true, ◌&&◌, List, [], ◌∷◌, ◌++◌, map, length, Some, None, codes, decimal, Option, nat_le, nat_lt, slice_index_or}
 use Rattle.std.specs.Option.{option_map, option_or}
 use Rattle.std.specs.Str.{bytes_eq}
-use Rattle.arrayvec.specs.ArrayVec.{ArrayVec}
 use Rattle.bank.specs.Book.{pick}
 use Rattle.bank.specs.Calls.{Call as Meant}
 use Rattle.device.specs.Rows.{numbers, with_bytes}
@@ -110,10 +109,6 @@ Examples =
     (row_in (codes "day ends") ≡ Some (4 ∷ [])) × (row_in (codes "take back 258") ≡ Some (3 ∷ 2 ∷ 1 ∷ 0 ∷ 0 ∷ 0 ∷ 0 ∷ 0 ∷ 0 ∷ []))
     × (row_in (codes " 3  258 ") ≡ Some (3 ∷ 2 ∷ 1 ∷ 0 ∷ 0 ∷ 0 ∷ 0 ∷ 0 ∷ 0 ∷ [])) × (row_in (codes "255") ≡ Some (255 ∷ [])) × (row_in (codes "256") ≡ None)
     × (row_in [] ≡ None) × (row_in (codes "take back") ≡ None) × (row_in (codes "take back 1 2") ≡ None) × (row_in (codes "sum") ≡ None)
-
--- the numbers that the code found
-abbrev pub found : Option (ArrayVec ℕ) → Option (List ℕ)
-found o = option_map (λ ns. ns.items) o
 
 -- numbers in front of others
 abbrev pub behind : List ℕ → Option (List ℕ) → Option (List ℕ)

@@ -3,4 +3,5 @@
 
 pub mod answer;
 pub mod line;
+mod numbers;
 mod word;

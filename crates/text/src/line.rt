@@ -14,13 +14,13 @@
 // | 7 | sums |
 // | 8 | taken |
 ghost use Rattle.std.specs.Prelude.{◌≡◌, ◌+◌, ◌<◌, ◌≤◌, length, IfOk, IfSome, Some, string_bytes};
-ghost use Rattle.arrayvec.specs.ArrayVec.{array_vec_len};
 ghost use Rattle.wire.specs.Meaning.{meant};
 ghost use Rattle.text.specs.Words.{words};
-ghost use Rattle.text.specs.Lines.{Examples, Matched, ReadsNumbers, ReadsWords, RowWritten, ToldNumbers, by_forms, call_forms, call_line, few_numbers, followed, form_numbers, found, line_numbers, row_in, row_of_numbers};
+ghost use Rattle.text.specs.Listed.{found, listed};
+ghost use Rattle.text.specs.Lines.{Examples, Matched, ReadsNumbers, ReadsWords, RowWritten, ToldNumbers, by_forms, call_forms, call_line, few_numbers, followed, form_numbers, line_numbers, row_in, row_of_numbers};
 
+use crate::numbers::Numbers;
 use crate::word::{Words, number_in};
-use arrayvec::ArrayVec;
 use std::alloc::{AllocError, Global};
 use std::fmt;
 use wire::bytes::put_form;
@@ -28,12 +28,6 @@ use wire::call::Call;
 
 // The most bytes that a row can have that a line stands for: a byte, and eight for each number behind it.
 pub const LONGEST: usize = 65;
-
-// The most numbers that a line can have: a byte, and eight fields behind it.
-const MOST: usize = 9;
-
-// The numbers of a line, in their order.
-type Numbers = ArrayVec<u64, MOST>;
 
 // The forms of calls in words, in the order of the bytes that calls begin with; a mark stands for a number.
 static FORMS: [&str; 9] = [
@@ -53,9 +47,9 @@ const MARK: &[u8] = b"#";
 
 // Reads a word by the word of a form: a number more where that is a mark, else the same word.
 fn read_by(mark: &[u8], word: &[u8], numbers: &mut Numbers) -> Option<()>
-    requires { array_vec_len numbers.old < 9 }
-    ensures read { Matched numbers.old.items mark.now word.now numbers.new.items result }
-    ensures few { array_vec_len numbers.new ≤ array_vec_len numbers.old + 1 }
+    requires { numbers.old.count < 9 }
+    ensures read { Matched (listed numbers.old) mark.now word.now (listed numbers.new) result }
+    ensures few { numbers.new.count ≤ numbers.old.count + 1 }
 {
     if mark == MARK {
         numbers.push(number_in(word)?);
@@ -99,8 +93,11 @@ fn in_numbers(line: &[u8]) -> Option<Numbers>
 {
     let mut numbers = Numbers::new();
     for word in Words::of(line) {
+        if numbers.is_full() {
+            return None;
+        }
         let n = number_in(word)?;
-        numbers.try_push(n).ok()?;
+        numbers.push(n);
     }
     Some(numbers)
 }

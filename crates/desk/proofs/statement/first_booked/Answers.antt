@@ -8,9 +8,9 @@ use Rattle.desk.proofs.statement.first_booked.Goals as goal
 
 pub returns : goal.returns
 returns c =
-    let n = bank c.args.book.now.ledger in
+    let n = bank c.args.ledger.now in
     let e = c.booked_days.ensures in
-    let parted = IsPartitionedBy-ltb (λ x. x) c.booked_days.result.now c.args.day (rw e (days_rise n (booked_in_order c.args.book.now))) in
+    let parted = IsPartitionedBy-ltb (λ x. x) c.booked_days.result.now c.args.day (rw e (days_rise n (booked_in_order c.args.ledger.now c.requires))) in
     let point = c.partition_point.ensures.partitioned (λ x. ltb x c.args.day) (always_returns_same _ _ _ (λ a r q k. search rules)) parted in
     let within : c.partition_point.result ≤ length n.bookings = omega (arith, c.partition_point.ensures.bound, ap (λ xs. length xs) e ∙ length-map n.bookings (λ b. b.on)) in
     record {

@@ -13,25 +13,25 @@ newest-next-requires g c =
     omega (arith, bank_accounts s, ap (λ h. length h.newest.now) c.chain-chain.ensures, (g.met.S.Side.has_room s.chains s.accounts.capacity s.bookings.capacity s.linkable).0)
 
 pub before-next-requires : goal.before-next-requires
-before-next-requires g c = walk_room c.loop-next.invariant c.in-Some.i (ap link_of c.in-Some.is)
+before-next-requires g c = let room = walk_room c.loop-next.invariant c.in-Some.i (ap link_of c.in-Some.is) in grind arith
 
 pub loop-next-init : goal.loop-next-init
 loop-next-init g c =
     let s = c.args.self.now in
     walk_start
-    (way_by s _ _ g.S.Side.party_of c.args.known_day c.args.account c.args.value_day c.chain-chain.ensures (g.met.S.Side.is_chained _ _ _ _ s.incoming s.outgoing)
+    (way_by s _ g.S.Side.party_of c.args.known_day c.args.account c.args.value_day (g.met.S.Side.is_chained _ _ _ _ s.incoming s.outgoing)
     (g.met.S.Side.has_room s.chains s.accounts.capacity s.bookings.capacity s.linkable).1 c.requires.there)
-    _ c.newest-next.ensures
+    _ (cc)
 
 pub overflow_add-sum : goal.overflow_add-sum
 overflow_add-sum g c = omega (arith, walk_small c.loop-next.invariant c.in-Some.i (ap link_of c.in-Some.is) c.share-sum.result (booked c.get.result) c.get.ensures c.share-sum.ensures)
 
 pub loop-next-smaller : goal.loop-next-smaller
-loop-next-smaller g c = walk_less c.loop-next.invariant c.in-Some.i (ap link_of c.in-Some.is) _ c.before-next.ensures
+loop-next-smaller g c = walk_less c.loop-next.invariant c.in-Some.i (ap link_of c.in-Some.is) _ (cc)
 
 pub loop-next-preserved : goal.loop-next-preserved
 loop-next-preserved g c =
-    walk_step c.loop-next.invariant c.in-Some.i (ap link_of c.in-Some.is) c.share-sum.result (booked c.get.result) _ c.get.ensures c.share-sum.ensures c.before-next.ensures
+    walk_step c.loop-next.invariant c.in-Some.i (ap link_of c.in-Some.is) c.share-sum.result (booked c.get.result) _ c.get.ensures c.share-sum.ensures (cc)
 
 pub returns : goal.returns
 returns g c =

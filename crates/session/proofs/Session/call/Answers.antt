@@ -1,4 +1,5 @@
-use Rattle.std.proofs.Common.{◌≡◌, ◌*◌, ◌/◌, ◌<◌, refl, sym, ap, ◌∙◌, subst, arith}
+use Rattle.std.proofs.Common.{◌≡◌, ◌*◌, ◌/◌, ◌<◌, [], ◌∷◌, refl, sym, ap, ◌∙◌, subst, arith}
+use Rattle.device.specs.Device.{say}
 use Rattle.wire.specs.Format.{read_call_lem}
 use Rattle.wire.specs.Meaning.{meant}
 use Rattle.ledger.specs.Meaning.{bank, limits}
@@ -7,7 +8,9 @@ use Rattle.journal.specs.declared.journal.Journal.{Journal}
 use Rattle.journal.specs.Tail.{Appended}
 use Rattle.session.specs.Joined.{Joined}
 use Rattle.session.specs.declared.Session.{Session}
+use Rattle.session.specs.declared.Stage.{Stage}
 use Rattle.session.specs.declared.Stage.TheVariants.{Writing}
+use Rattle.session.specs.Session.{left, left_of, answer_of_lem}
 use Rattle.session.proofs.Replies.{follows}
 use Rattle.session.proofs.Readable.{row_readable}
 use Rattle.session.proofs.Steps.{Called, served_garbled, can_store, has_place, joined_on, joined_more, called_quiet, called_taken}
@@ -20,7 +23,7 @@ returns-in-Err c =
     let y = row_readable c.args.row.now (λ i. omega (arith, c.type_inv.row i)) (omega arith) in
     let q : Called s c.reply.new.self (read_call_lem c.args.row.now) =
     called_quiet s c.reply.new.self _ (read_call_lem c.args.row.now) s.book.ledger _ y c.in-Err.ensures (ap (λ (b : Book). b.ledger) o.book) o.answer (served_garbled s.book c.in-Err.place) o.journal o.stage in
-    record { state = q.state; acts = q.acts; limits = q.limits }
+    record { state = q.state; acts = q.acts; limits = q.limits; reached = q.onward }
 
 pub invariant_of-self : goal.invariant_of-self
 invariant_of-self c =
@@ -81,13 +84,16 @@ returns-in-Changed c =
     } in
     let q : Called s t (read_call_lem c.args.row.now) =
     called_taken s t _ (read_call_lem c.args.row.now) c.take.new.self.ledger _ y c.in-Ok.ensures (ap (λ (b : Book). b.ledger) o.book) o.answer c.append.result c.in-Changed.ensures j refl at in
-    record { state = q.state; acts = q.acts; limits = q.limits }
+    record { state = q.state; acts = q.acts; limits = q.limits; reached = q.onward }
 
 pub returns-in-Unchanged : goal.returns-in-Unchanged
 returns-in-Unchanged c =
     let s = c.args.self.now in
     let o = c.reply-in-Unchanged.ensures in
     let y = row_readable c.args.row.now (λ i. omega (arith, c.type_inv.row i)) (omega arith) in
-    let q : Called s c.reply-in-Unchanged.new.self (read_call_lem c.args.row.now) =
-    called_quiet s c.reply-in-Unchanged.new.self _ (read_call_lem c.args.row.now) c.take.new.self.ledger _ y c.in-Ok.ensures (ap (λ (b : Book). b.ledger) o.book) o.answer c.in-Unchanged.ensures o.journal o.stage in
-    record { state = q.state; acts = q.acts; limits = q.limits }
+    let t = c.reply-in-Unchanged.new.self in
+    let q : Called s t (read_call_lem c.args.row.now) =
+    called_quiet s t _ (read_call_lem c.args.row.now) c.take.new.self.ledger _ y c.in-Ok.ensures (ap (λ (b : Book). b.ledger) o.book) o.answer c.in-Unchanged.ensures o.journal o.stage in
+    let said : left t ≡ say (answer_of_lem t) ∷ [] = ap (λ (x : Stage). left_of x t.journal.block.now (answer_of_lem t)) o.stage in
+    let acts = q.acts in
+    record { state = q.state; acts = (cc); limits = q.limits; reached = q.onward }

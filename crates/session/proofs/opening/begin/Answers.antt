@@ -3,6 +3,7 @@ use Rattle.device.specs.Book.{ran_by}
 use Rattle.bank.specs.Promise.{room}
 use Rattle.model.specs.First.{size}
 use Rattle.columns.specs.Sizes.{limits_of}
+use Rattle.desk.proofs.Beginning.{new_begun}
 use Rattle.journal.specs.declared.header.Label.{Label}
 use Rattle.session.proofs.opening.begin.Goals as goal
 
@@ -32,4 +33,6 @@ returns c =
       fresh = record { bank_is = n.bank_is; stands = c.new-journal.ensures.stands };
       unread = c.new-journal.ensures.blocks.1;
       idle = refl;
+      open_yet = refl;
+      reached = (new_begun c.args.book.ledger (limits_of c.args.limits) c.requires.lawful n).reached;
     }
